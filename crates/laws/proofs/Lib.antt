@@ -1,0 +1,4 @@
+pub mod Pinned
+pub mod Bools
+pub mod Lists
+pub mod Bytes
