@@ -1,3 +1,4 @@
 pub mod Laws
 pub mod Rules
+pub mod Joined
 pub mod Examples

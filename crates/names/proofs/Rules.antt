@@ -14,7 +14,7 @@ use Rattle.laws.proofs.Bytes.{one-of, same-text}
 use Rattle.laws.proofs.Lists.{every-in}
 use Rattle.names.proofs.Laws.{slash-segments, byte-segments, plain-first, opens-first}
 use Rattle.names.specs.Names.{nameByte, nameText, isUnqualifiedName, isMethodName, before, segments, isBinaryName, plainModuleByte, escapable, moduleRest, isModuleName}
-use Rattle.names.specs.Rules.{Name, UnqualifiedName, MethodName, BinaryName, PlainModuleByte, ModuleName}
+use Rattle.names.specs.Rules.{Name, UnqualifiedName, MethodName, Joined, BinaryName, PlainModuleByte, ModuleName}
 use Rattle.names.specs.Theorems.{UnqualifiedExactly, MethodExactly, BinaryExactly, ModuleExactly}
 
 -- a test under the limit, from the test alone
@@ -162,10 +162,10 @@ join-segments (b ∷ s) = go (join-segments s) (eqb b (byte "/")) refl
 
 names-join : (w : List ℕ) (ws : List (List ℕ)) → So (every (nameText false) (w ∷ ws)) → BinaryName (join (w ∷ ws))
 unfolding join every
-names-join w [] h = BinaryName.last (name-text false w .0 (and-eq-true-iff (nameText false w) true .0 h .0))
+names-join w [] h = Joined.last (name-text false w .0 (and-eq-true-iff (nameText false w) true .0 h .0))
 names-join w (v ∷ ws) h =
     let both = and-eq-true-iff (nameText false w) (every (nameText false) (v ∷ ws)) .0 h in
-    BinaryName.more (name-text false w .0 (both .0)) (names-join v ws (both .1)) refl
+    Joined.more (name-text false w .0 (both .0)) (names-join v ws (both .1)) refl
 
 binary-sound : (s : List ℕ) → So (every (nameText false) (segments s)) → BinaryName s
 binary-sound s h = subst BinaryName (join-segments s) (go (segments s) (some-segment s) h)
@@ -187,10 +187,10 @@ no-slash n m = n .none (byte "/") m (one-of (ascii ".;[/") (byte "/") .0 refl)
 
 binary-complete : {s : List ℕ} → BinaryName s → So (every (nameText false) (segments s))
 unfolding every
-binary-complete (BinaryName.last {s} n) =
+binary-complete (Joined.last {s} n) =
     let alone : segments s ≡ s ∷ [] = rw append-nil at (word-segments [] [] [] (unfold segments in refl) s (no-slash n)) in
     rw alone (and-eq-true-iff (nameText false s) true .1 (name-text false s .1 n, refl))
-binary-complete (BinaryName.more {s} {w} {t} n m e) =
+binary-complete (Joined.more {s} {w} {t} n m e) =
     rw (e, word-segments (byte "/" ∷ t) (segments t) [] (slash-segments _ t refl) w (no-slash n), append-nil w)
     (and-eq-true-iff (nameText false w) (every (nameText false) (segments t)) .1 (name-text false w .1 n, binary-complete m))
 

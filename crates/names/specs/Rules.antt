@@ -20,10 +20,14 @@ pub data MethodName (init clinit : Bool) (s : List ℕ) : Type 0 where
   instance-initializer : So init → s ≡ ascii "<init>" → MethodName init clinit s
   class-initializer : So clinit → s ≡ ascii "<clinit>" → MethodName init clinit s
 
--- JVMS 4.2.1: unqualified names with a / between each two
-pub data BinaryName : List ℕ → Type 0 where
-  last : {s : List ℕ} → UnqualifiedName s → BinaryName s
-  more : {s w t : List ℕ} → UnqualifiedName w → BinaryName t → s ≡ w ++ byte "/" ∷ t → BinaryName s
+-- names with a / between each two
+pub data Joined (barred : List ℕ) : List ℕ → Type 0 where
+  last : {s : List ℕ} → Name barred s → Joined barred s
+  more : {s w t : List ℕ} → Name barred w → Joined barred t → s ≡ w ++ byte "/" ∷ t → Joined barred s
+
+-- JVMS 4.2.1: its identifiers are unqualified names
+abbrev pub BinaryName : List ℕ → Type 0
+BinaryName = Joined (ascii ".;[/")
 
 -- JVMS 4.2.3: what stands by itself is none of 00 to 1f and none of : @ \
 pub record PlainModuleByte (b : ℕ) : Type 0 where
