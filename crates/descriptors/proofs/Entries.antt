@@ -1,20 +1,21 @@
 -- The theorems on whole texts, from those on what begins one.
 use Prim.Native.Nat.{ℕ, _+_, _≤_, _<_}
 use mathlib.Core.Bool.{Bool, true, false, So, false≢true, and-eq-true-iff}
-use mathlib.Core.List.{List, [], _∷_, _++_, append-nil, head-eq-of-cons-eq}
+use mathlib.Core.List.{List, [], _∷_, _++_, append-nil}
 use mathlib.Core.Logic.{_↔_, _⊎_, inl, inr, ⊎-elim}
 use mathlib.Core.Path.{_≡_, refl, sym, ap, _∙_, subst}
 use native.Mathlib.Omega.{arith}
-use borrow.Author.Tests.{leb-true, leb-false, ltb-true, ltb-false, eqb-true, eq-eqb}
+use borrow.Author.Tests.{leb-true, leb-false, ltb-true, ltb-false}
 use lib.Dec.{leb, ltb}
 use lib.ListN.{length, length-append}
-use Rattle.laws.specs.Bytes.{byte, ascii, textLimit}
+use Rattle.laws.specs.Bytes.{byte, ascii, beginsWith, textLimit}
+use Rattle.laws.proofs.Lists.{begins-cons}
 use Rattle.laws.proofs.Bytes.{same-text, other-text}
 use Rattle.descriptors.specs.declared.FieldDescriptor.{FieldDescriptor}
 use Rattle.descriptors.specs.declared.Field.{Field}
 use Rattle.descriptors.specs.declared.Field.the-variants as field
 use Rattle.descriptors.specs.declared.Array.the-variants as array
-use Rattle.descriptors.specs.Texts.{void, isVoid, isAccepted, typeFrom, fieldFrom, returnFrom, whole, fieldPrefix, fieldText, returnPrefix, returnText, opensArray, arrayOf, arrayText}
+use Rattle.descriptors.specs.Texts.{void, isVoid, isAccepted, typeFrom, fieldFrom, returnFrom, whole, fieldPrefix, fieldText, returnPrefix, returnText, arrayOf, arrayText}
 use Rattle.descriptors.specs.Theorems.{BeginsField, ReturnExactly, DerivedField, FieldTextExactly, ReturnTextExactly, ArrayTextExactly, FieldWholeIsPrefix, ReturnWholeIsPrefix, FieldCheckAgrees, ReturnCheckAgrees, ArrayCheckAgrees}
 use Rattle.descriptors.proofs.Laws.{array-over, array-none, array-some, return-void, return-value, some-left, none-left, field-within, field-over, return-within, return-over}
 use Rattle.descriptors.proofs.Grammar.{clash, field-exactly, field-begins}
@@ -157,11 +158,6 @@ pub return-check-agrees : ReturnCheckAgrees
 return-check-agrees s = accepted-is (returnText s)
 
 -- Arrays.
-opens : (s : List ℕ) → So (opensArray s) ↔ ((t : List ℕ) × (s ≡ byte "[" ∷ t))
-unfolding opensArray
-opens [] = (λ h. absurd (false≢true h), λ h. cc (h .1))
-opens (b ∷ s) = (λ h. (s, ap (λ (x : ℕ). x ∷ s) (eqb-true _ _ h)), λ h. eq-eqb b (byte "[") (head-eq-of-cons-eq (h .1)))
-
 no-array {ℓ} : {A : Type ℓ} {k p : ℕ} {f : FieldDescriptor} → array.Refused k p ≡ array.Parsed f → A
 no-array h = absurd (let z : _≡_ {A = ℕ} 0 1 = cc in omega arith)
 
@@ -173,36 +169,36 @@ unfolding arrayOf
 array-parsed (field.Parsed g used) f h = (used, cc)
 array-parsed (field.Refused n p) f h = no-array h
 
-array-whole : (s : List ℕ) (f : FieldDescriptor) → (arrayText s ≡ array.Parsed f) ↔ (So (opensArray s) × (fieldText s ≡ field.Parsed f (length s)))
-array-whole s f = (λ h. to h (leb (length s) textLimit) refl (opensArray s) refl, from)
+array-whole : (s : List ℕ) (f : FieldDescriptor) → (arrayText s ≡ array.Parsed f) ↔ (So (beginsWith (byte "[") s) × (fieldText s ≡ field.Parsed f (length s)))
+array-whole s f = (λ h. to h (leb (length s) textLimit) refl (beginsWith (byte "[") s) refl, from)
   where
-    to : arrayText s ≡ array.Parsed f → (t : Bool) → leb (length s) textLimit ≡ t → (o : Bool) → opensArray s ≡ o → So (opensArray s) × (fieldText s ≡ field.Parsed f (length s))
+    to : arrayText s ≡ array.Parsed f → (t : Bool) → leb (length s) textLimit ≡ t → (o : Bool) → beginsWith (byte "[") s ≡ o → So (beginsWith (byte "[") s) × (fieldText s ≡ field.Parsed f (length s))
     to h false e o q = no-array (sym (array-over s (leb-false _ _ e)) ∙ h)
     to h true e false q = not-array (sym (array-none s (leb-true _ _ e) q) ∙ h)
     to h true e true q =
         let read = array-parsed (fieldText s) f (sym (array-some s (leb-true _ _ e) q) ∙ h) in
         (q, read .1 ∙ ap (field.Parsed f) (field-text-exactly s f (read .0) .0 (read .1) .all))
 
-    from : So (opensArray s) × (fieldText s ≡ field.Parsed f (length s)) → arrayText s ≡ array.Parsed f
+    from : So (beginsWith (byte "[") s) × (fieldText s ≡ field.Parsed f (length s)) → arrayText s ≡ array.Parsed f
     from h = array-some s (field-text-exactly s f (length s) .0 (h .1) .short) (h .0) ∙ ap arrayOf (h .1) ∙ unfold arrayOf in refl
 
 pub array-text-exactly : ArrayTextExactly
 array-text-exactly s f = (
   λ h.
       let a = array-whole s f .0 h in
-      let o = opens s .0 (a .0) in
+      let o = begins-cons (byte "[") s .0 (a .0) in
       (o .0, o .1, field-text-exactly s f (length s) .0 (a .1)),
-  λ h. array-whole s f .1 (opens s .1 (h .0, h .1), field-text-exactly s f (length s) .1 (h .2)),
+  λ h. array-whole s f .1 (begins-cons (byte "[") s .1 (h .0, h .1), field-text-exactly s f (length s) .1 (h .2)),
 )
 
 pub array-check-agrees : ArrayCheckAgrees
 array-check-agrees s = (
   λ h.
-      let both = and-eq-true-iff (opensArray s) (isAccepted (fieldText s)) .0 h in
+      let both = and-eq-true-iff (beginsWith (byte "[") s) (isAccepted (fieldText s)) .0 h in
       let read = accepted-is (fieldText s) .0 (both .1) in
       let all : read .1 ≡ length s = field-text-exactly s (read .0) (read .1) .0 (read .2) .all in
       (read .0, array-whole s (read .0) .1 (both .0, read .2 ∙ ap (field.Parsed (read .0)) all)),
   λ h.
       let a = array-whole s (h .0) .0 (h .1) in
-      and-eq-true-iff (opensArray s) (isAccepted (fieldText s)) .1 (a .0, accepted-is (fieldText s) .1 (h .0, length s, a .1)),
+      and-eq-true-iff (beginsWith (byte "[") s) (isAccepted (fieldText s)) .1 (a .0, accepted-is (fieldText s) .1 (h .0, length s, a .1)),
 )

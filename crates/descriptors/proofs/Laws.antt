@@ -7,12 +7,12 @@ use borrow.Author.Tests.{eq-eqb, ne-eqb, lt-ltb, le-ltb, le-leb, lt-leb, leb-tru
 use native.Mathlib.Omega.{arith}
 use lib.Dec.{eqb, leb}
 use lib.ListN.{length, getD, drop}
-use Rattle.laws.specs.Bytes.{byte, sameText, textLimit}
+use Rattle.laws.specs.Bytes.{byte, beginsWith, sameText, textLimit}
 use Rattle.laws.proofs.Lists.{here, done}
 use Rattle.descriptors.specs.declared.FieldDescriptor.{FieldDescriptor}
 use Rattle.descriptors.specs.declared.Field.the-variants as field
 use Rattle.descriptors.specs.declared.Array.the-variants as array
-use Rattle.descriptors.specs.Texts.{maxDimensions, base, void, isBaseType, isVoid, objectFrom, typeFrom, fieldFrom, returnFrom, whole, fieldPrefix, fieldText, returnPrefix, opensArray, arrayOf, arrayText}
+use Rattle.descriptors.specs.Texts.{maxDimensions, base, void, isBaseType, isVoid, objectFrom, typeFrom, fieldFrom, returnFrom, whole, fieldPrefix, fieldText, returnPrefix, arrayOf, arrayText}
 
 module _ (d at b : ℕ) (s : List ℕ) where
   pub object-letter : b ≡ byte "L" → typeFrom d at b s ≡ objectFrom d (at + 1) s
@@ -83,11 +83,11 @@ module _ (s : List ℕ) where
   array-over h = rw (lt-leb _ _ h, arrayText)
 
   module _ (short : length s ≤ textLimit) where
-    pub array-none : opensArray s ≡ false → arrayText s ≡ array.NotArray
+    pub array-none : beginsWith (byte "[") s ≡ false → arrayText s ≡ array.NotArray
     unfolding arrayText
     array-none e = rw (le-leb _ _ short, e, arrayText)
 
-    pub array-some : opensArray s ≡ true → arrayText s ≡ arrayOf (fieldText s)
+    pub array-some : beginsWith (byte "[") s ≡ true → arrayText s ≡ arrayOf (fieldText s)
     unfolding arrayText
     array-some e = rw (le-leb _ _ short, e, arrayText)
 
@@ -115,13 +115,3 @@ module _ (t : List ℕ) (at : ℕ) where
       go : (past : Bool) → leb (length t) at ≡ past → at < length t
       go true q = absurd (false≢true (sym (void-past (leb-true _ _ q)) ∙ e))
       go false q = leb-false _ _ q
-
-pub opens-first : (s : List ℕ) → 0 < length s → opensArray s ≡ eqb (getD s 0 0) (byte "[")
-unfolding opensArray
-opens-first [] h = absurd (omega arith)
-opens-first (b ∷ s) h = refl
-
-pub opens-nothing : (s : List ℕ) → length s ≤ 0 → opensArray s ≡ false
-unfolding opensArray
-opens-nothing [] h = refl
-opens-nothing (b ∷ s) h = absurd (omega arith)

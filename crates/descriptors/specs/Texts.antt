@@ -6,7 +6,7 @@ use mathlib.Core.Bool.{Bool, true, false, _&&_}
 use mathlib.Core.List.{List, [], _∷_}
 use lib.Dec.{eqb, ltb}
 use lib.ListN.{length}
-use Rattle.laws.specs.Bytes.{byte, ascii, oneOf, sameText, withinLimit}
+use Rattle.laws.specs.Bytes.{byte, ascii, beginsWith, oneOf, sameText, withinLimit}
 use Rattle.descriptors.specs.declared.FieldDescriptor.{FieldDescriptor}
 use Rattle.descriptors.specs.declared.Field.{Field}
 use Rattle.descriptors.specs.declared.Field.the-variants as field
@@ -87,10 +87,6 @@ abbrev pub returnText : List ℕ → Field
 returnText s = whole (length s) (returnPrefix s)
 
 -- An array descriptor, whole; a text that does not start with [ is none
-unfoldable pub opensArray : List ℕ → Bool
-opensArray [] = false
-opensArray (b ∷ s) = eqb b (byte "[")
-
 unfoldable pub arrayOf : Field → Array
 arrayOf (field.Parsed f used) = array.Parsed f
 arrayOf (field.Refused n p) = array.Refused n p
@@ -98,7 +94,7 @@ arrayOf (field.Refused n p) = array.Refused n p
 unfoldable pub arrayText : List ℕ → Array
 arrayText s =
     elim (withinLimit s) [
-      | true ↦ elim (opensArray s) [ true ↦ arrayOf (fieldText s) | false ↦ array.NotArray ]
+      | true ↦ elim (beginsWith (byte "[") s) [ true ↦ arrayOf (fieldText s) | false ↦ array.NotArray ]
       | false ↦ array.Refused 21 0
     ]
 
@@ -114,4 +110,4 @@ abbrev pub isReturnText : List ℕ → Bool
 isReturnText s = isAccepted (returnText s)
 
 abbrev pub isArrayText : List ℕ → Bool
-isArrayText s = opensArray s && isAccepted (fieldText s)
+isArrayText s = beginsWith (byte "[") s && isAccepted (fieldText s)

@@ -6,8 +6,8 @@ use laws::TEXT_LIMIT;
 ghost use mathlib.Core.Path.{_≡_};
 ghost use Prim.Native.Nat.{_+_, _≤_, _<_};
 ghost use lib.ListN.{length, getD, drop};
-ghost use Rattle.laws.specs.Bytes.{textLimit};
-ghost use Rattle.descriptors.specs.Texts.{isBaseType, isVoid, isAccepted, base, object, objectFrom, typeFrom, fieldFrom, returnFrom, whole, fieldPrefix, fieldText, returnPrefix, returnText, arrayText, isFieldText, isReturnText, isArrayText, opensArray};
+ghost use Rattle.laws.specs.Bytes.{beginsWith, textLimit};
+ghost use Rattle.descriptors.specs.Texts.{isBaseType, isVoid, isAccepted, base, object, objectFrom, typeFrom, fieldFrom, returnFrom, whole, fieldPrefix, fieldText, returnPrefix, returnText, arrayText, isFieldText, isReturnText, isArrayText};
 
 // Document 01's refusals of a text.
 pub const TYPE_DUE: u32 = 22;
@@ -205,11 +205,11 @@ pub fn return_whole(text: &[u8]) -> Field
     all_used(text.len(), return_prefix(text))
 }
 
-// Whether a text starts with `[`.
-fn opens_array(text: &[u8]) -> bool
-    ensures { λ r. ⌜ r ≡ opensArray (now (text .entry)) ⌝ }
+// Whether a byte stands at an offset, for readers of longer texts too.
+pub fn begins_with(text: &[u8], at: usize, b: u8) -> bool
+    ensures { λ r. ⌜ r ≡ beginsWith b (drop at (now (text .entry))) ⌝ }
 {
-    0 < text.len() && text[0] == b'['
+    at < text.len() && text[at] == b
 }
 
 pub fn array_whole(text: &[u8]) -> Array
@@ -218,7 +218,7 @@ pub fn array_whole(text: &[u8]) -> Array
     if TEXT_LIMIT < text.len() {
         return Array::Refused(OVER_THE_LIMIT, 0);
     }
-    if !opens_array(text) {
+    if !begins_with(text, 0, b'[') {
         return Array::NotArray;
     }
     match field_whole(text) {
@@ -251,5 +251,5 @@ pub fn is_return_descriptor(text: &[u8]) -> bool
 pub fn is_array_descriptor(text: &[u8]) -> bool
     ensures { λ r. ⌜ r ≡ isArrayText (now (text .entry)) ⌝ }
 {
-    opens_array(text) && is_accepted(field_whole(text))
+    begins_with(text, 0, b'[') && is_accepted(field_whole(text))
 }

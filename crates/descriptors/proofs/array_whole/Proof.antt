@@ -10,7 +10,7 @@ returns : tie.Need-returns
 returns c = sym (array-over _ (c .if1 .taken))
 
 returns-2 : tie.Need-returns-2
-returns-2 c = sym (array-none _ (c .before .before .if1 .left) (sym (c .before .opens-array .ensures) ∙ not-true _ (c .if2 .taken)))
+returns-2 c = sym (array-none _ (c .before .before .if1 .left) (sym (c .before .begins-with .ensures) ∙ not-true _ (c .if2 .taken)))
 
 returns-3 : tie.Need-returns-3
 unfolding arrayOf
@@ -18,7 +18,7 @@ returns-3 c =
     let r = c .before .before .before in
     let o = r .before in
     ap arrayOf (sym (c .before .parts .given .1) ∙ r .field-whole .ensures)
-    ∙ sym (array-some _ (o .before .before .if1 .left) (sym (o .before .opens-array .ensures) ∙ not-false _ (o .if2 .left)))
+    ∙ sym (array-some _ (o .before .before .if1 .left) (sym (o .before .begins-with .ensures) ∙ not-false _ (o .if2 .left)))
 
 returns-4 : tie.Need-returns-4
 unfolding arrayOf
@@ -26,7 +26,7 @@ returns-4 c =
     let r = c .before .before .before in
     let o = r .before in
     ap arrayOf (sym (c .before .number .given .1) ∙ r .field-whole .ensures)
-    ∙ sym (array-some _ (o .before .before .if1 .left) (sym (o .before .opens-array .ensures) ∙ not-false _ (o .if2 .left)))
+    ∙ sym (array-some _ (o .before .before .if1 .left) (sym (o .before .begins-with .ensures) ∙ not-false _ (o .if2 .left)))
 
 pub array-whole-spec : {M : Type 1} → statement M
 array-whole-spec =
