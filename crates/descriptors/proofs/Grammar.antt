@@ -93,7 +93,7 @@ field-begins d at (b ∷ s) f next few h = go (field-begins (d + 1) (at + 1) s f
         }
 
 -- a field descriptor has a byte, and ends in the text
-some-text : {s : List ℕ} → FieldType s → 0 < length s
+pub some-text : {s : List ℕ} → FieldType s → 0 < length s
 some-text (FieldType.base-type p) = omega arith
 some-text (FieldType.object-type name e c q) = omega arith
 some-text (FieldType.array-type e t) = omega arith

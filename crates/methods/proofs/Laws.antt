@@ -1,7 +1,7 @@
 -- The clauses of the readings by their tests, and the loop over the parameters.
 use Prim.Native.Nat.{ℕ, zero, suc, _+_, _-_, _*_, _≤_, _<_}
 use mathlib.Core.Bool.{Bool, true, false}
-use mathlib.Core.List.{List}
+use mathlib.Core.List.{List, _∷_}
 use mathlib.Core.Path.{_≡_, refl, sym, ap, _∙_}
 use native.Mathlib.Nat.{sub-zero}
 use native.Mathlib.Omega.{arith}
@@ -10,7 +10,7 @@ use lib.Dec.{leb}
 use lib.ListN.{length, drop, replicate}
 use lib.Seq.{sets, length-sets, drop-drop}
 use Rattle.laws.specs.Bytes.{byte, beginsWith, textLimit}
-use Rattle.laws.proofs.Lists.{begins-in}
+use Rattle.laws.proofs.Lists.{begins-in, begins-cons}
 use Rattle.descriptors.specs.declared.FieldDescriptor.{FieldDescriptor}
 use Rattle.descriptors.specs.declared.Field.{Field}
 use Rattle.descriptors.specs.declared.Field.the-variants as field
@@ -42,6 +42,10 @@ module _ (at : ℕ) (s : List ℕ) where
     pub rest-refused : (n p : ℕ) → nextFrom at s ≡ next.Refused n p → restFrom (suc most) at s ≡ Reading.refused n p
     unfolding restFrom
     rest-refused n p e = rw (e, restFrom)
+
+pub rest-none : (at : ℕ) (s : List ℕ) → restFrom 0 at s ≡ Reading.refused 22 at
+unfolding restFrom
+rest-none at s = refl
 
 module _ (t : List ℕ) (at : ℕ) {r : Field} where
   pub return-there : beginsWith (byte ")") (drop at t) ≡ true → r ≡ returnFrom (at + 1) (drop (at + 1) t) → returnOf r ≡ nextFrom at (drop at t)
@@ -83,21 +87,43 @@ module _ (answer : Method) (store : List ℕ) where
   unfolding storeAfter
   settled-refused e c = (sym e, rw e c)
 
+-- What the next part says of the text.
+module _ (at : ℕ) (s : List ℕ) (f : FieldDescriptor) (after : ℕ) where
+  pub is-parameter : nextFrom at s ≡ next.Parameter f after → fieldFrom 0 at s ≡ field.Parsed f after
+  is-parameter h = go (beginsWith (byte ")") s) refl
+    where
+      parsed : (r : Field) → parameterOf r ≡ next.Parameter f after → r ≡ field.Parsed f after
+      parsed (field.Parsed g a) e = cc
+      parsed (field.Refused n p) e = absurd (let z : _≡_ {A = ℕ} 0 1 = cc in omega arith)
+
+      never : (r : Field) → returnOf r ≡ next.Parameter f after → ⊥
+      never (field.Parsed g a) e = let z : _≡_ {A = ℕ} 0 1 = cc in omega arith
+      never (field.Refused n p) e = let z : _≡_ {A = ℕ} 0 1 = cc in omega arith
+
+      go : (b : Bool) → beginsWith (byte ")") s ≡ b → fieldFrom 0 at s ≡ field.Parsed f after
+      go true e = absurd (never (returnFrom (at + 1) (drop 1 s)) (sym (next-return at s e) ∙ h))
+      go false e = parsed (fieldFrom 0 at s) (sym (next-parameter at s e) ∙ h)
+
+  pub is-return : nextFrom at s ≡ next.Return f after → (t : List ℕ) × (s ≡ byte ")" ∷ t) × (returnFrom (at + 1) t ≡ field.Parsed f after)
+  is-return h = go (beginsWith (byte ")") s) refl
+    where
+      parsed : (r : Field) → returnOf r ≡ next.Return f after → r ≡ field.Parsed f after
+      parsed (field.Parsed g a) e = cc
+      parsed (field.Refused n p) e = absurd (let z : _≡_ {A = ℕ} 0 1 = cc in omega arith)
+
+      never : (r : Field) → parameterOf r ≡ next.Return f after → ⊥
+      never (field.Parsed g a) e = let z : _≡_ {A = ℕ} 0 1 = cc in omega arith
+      never (field.Refused n p) e = let z : _≡_ {A = ℕ} 0 1 = cc in omega arith
+
+      go : (b : Bool) → beginsWith (byte ")") s ≡ b → (t : List ℕ) × (s ≡ byte ")" ∷ t) × (returnFrom (at + 1) t ≡ field.Parsed f after)
+      go true e =
+          let c = begins-cons (byte ")") s .0 e in
+          (c .0, c .1, ap (λ (l : List ℕ). returnFrom (at + 1) (drop 1 l)) (sym (c .1)) ∙ parsed (returnFrom (at + 1) (drop 1 s)) (sym (next-return at s e) ∙ h))
+      go false e = absurd (never (fieldFrom 0 at s) (sym (next-parameter at s e) ∙ h))
+
 -- a parameter that was read lies past its start and ends in the text
 pub parameter-ends-in : (t : List ℕ) (at : ℕ) (f : FieldDescriptor) (after : ℕ) → at ≤ length t → nextFrom at (drop at t) ≡ next.Parameter f after → (at < after) × (after ≤ length t)
-parameter-ends-in t at f after h q = go (beginsWith (byte ")") (drop at t)) refl
-  where
-    from-field : (r : Field) → parameterOf r ≡ next.Parameter f after → r ≡ field.Parsed f after
-    from-field (field.Parsed g a) e = cc
-    from-field (field.Refused n p) e = absurd (let z : _≡_ {A = ℕ} 0 1 = cc in omega arith)
-
-    from-return : (r : Field) → returnOf r ≡ next.Parameter f after → ⊥
-    from-return (field.Parsed g a) e = let z : _≡_ {A = ℕ} 0 1 = cc in omega arith
-    from-return (field.Refused n p) e = let z : _≡_ {A = ℕ} 0 1 = cc in omega arith
-
-    go : (b : Bool) → beginsWith (byte ")") (drop at t) ≡ b → (at < after) × (after ≤ length t)
-    go true e = absurd (from-return (returnFrom (at + 1) (drop 1 (drop at t))) (sym (next-return at (drop at t) e) ∙ q))
-    go false e = field-ends-in t at f after h (from-field (fieldFrom 0 at (drop at t)) (sym (next-parameter at (drop at t) e) ∙ q))
+parameter-ends-in t at f after h q = field-ends-in t at f after h (is-parameter at (drop at t) f after q)
 
 pub parameter-falls : (t : List ℕ) (at : ℕ) (f : FieldDescriptor) (after : ℕ) → at ≤ length t → nextFrom at (drop at t) ≡ next.Parameter f after → length t - after < length t - at
 parameter-falls t at f after h q = omega (arith, parameter-ends-in t at f after h q)
