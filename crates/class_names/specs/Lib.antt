@@ -1,3 +1,4 @@
 pub mod Names
 pub mod Rules
 pub mod Theorems
+pub mod Examples

@@ -1,13 +1,14 @@
 -- The theorems on whole texts, from those on what begins one.
 use Prim.Native.Nat.{ℕ, _+_, _≤_, _<_}
 use mathlib.Core.Bool.{Bool, true, false, So, false≢true, and-eq-true-iff}
-use mathlib.Core.List.{List, [], _∷_, _++_, append-nil}
+use mathlib.Core.List.{List, [], append-nil}
 use mathlib.Core.Logic.{_↔_, _⊎_, inl, inr, ⊎-elim}
 use mathlib.Core.Path.{_≡_, refl, sym, ap, _∙_, subst}
+use native.Mathlib.Nat.{zero-add}
 use native.Mathlib.Omega.{arith}
 use borrow.Author.Tests.{leb-true, leb-false, ltb-true, ltb-false}
 use lib.Dec.{leb, ltb}
-use lib.ListN.{length, length-append}
+use lib.ListN.{length}
 use Rattle.laws.specs.Bytes.{byte, ascii, beginsWith, textLimit}
 use Rattle.laws.proofs.Lists.{begins-cons}
 use Rattle.laws.proofs.Bytes.{same-text, other-text}
@@ -18,7 +19,7 @@ use Rattle.descriptors.specs.declared.Array.the-variants as array
 use Rattle.descriptors.specs.Texts.{void, isVoid, isAccepted, typeFrom, fieldFrom, returnFrom, whole, fieldPrefix, fieldText, returnPrefix, returnText, arrayOf, arrayText}
 use Rattle.descriptors.specs.Theorems.{BeginsField, ReturnExactly, DerivedField, FieldTextExactly, ReturnTextExactly, ArrayTextExactly, FieldWholeIsPrefix, ReturnWholeIsPrefix, FieldCheckAgrees, ReturnCheckAgrees, ArrayCheckAgrees}
 use Rattle.descriptors.proofs.Laws.{array-over, array-none, array-some, return-void, return-value, some-left, none-left, field-within, field-over, return-within, return-over}
-use Rattle.descriptors.proofs.Grammar.{clash, field-exactly, field-begins}
+use Rattle.descriptors.proofs.Grammar.{clash, field-exactly, field-begins, begins-within, begins-all}
 
 -- V is no field descriptor, whatever the place
 void-no-field : (at : ℕ) {f : FieldDescriptor} {next : ℕ} → fieldFrom 0 at (ascii "V") ≡ field.Parsed f next → ⊥
@@ -73,24 +74,15 @@ module _ (s : List ℕ) (f : FieldDescriptor) (used : ℕ) where
       let read = within-limit (field-within s) (field-over s) h in
       (read .0, field-begins 0 0 s f used (omega arith) (read .1))
 
-  begins-within : BeginsField 0 0 s f used → used ≤ length s
-  begins-within b = rw (b .split, length-append) (omega (arith, b .place))
+  begins-short : BeginsField 0 0 s f used → used ≤ length s
+  begins-short b = omega (arith, begins-within b)
 
   -- what begins a text and is as long is the text
-  begins-all : length s ≤ textLimit → used ≡ length s → BeginsField 0 0 s f used → DerivedField s f used
-  begins-all short all b =
+  begins-derived : length s ≤ textLimit → used ≡ length s → BeginsField 0 0 s f used → DerivedField s f used
+  begins-derived short all b =
+      let is : s ≡ b .text = begins-all b (omega arith) in
       subst (λ (t : List ℕ). DerivedField t f used) (sym is)
-      (record { short = rw is at short; tree = b .tree; few = omega (arith, b .few); parts = b .parts; all = omega (arith, b .place) })
-    where
-      nothing : (l : List ℕ) → length l ≡ 0 → l ≡ []
-      nothing [] h = refl
-      nothing (x ∷ l) h = absurd (omega arith)
-
-      left : length (b .rest) ≡ 0
-      left = omega (arith, ap length (b .split) ∙ length-append (b .text) (b .rest), b .place)
-
-      is : s ≡ b .text
-      is = b .split ∙ ap (λ (l : List ℕ). b .text ++ l) (nothing (b .rest) left) ∙ append-nil (b .text)
+      (record { short = rw is at short; tree = b .tree; few = rw zero-add at (b .few); parts = b .parts; all = rw zero-add at (b .place) })
 
   derived-begins : DerivedField s f used → BeginsField 0 0 s f used
   derived-begins d = record { text = s; rest = []; tree = d .tree; split = sym (append-nil s); few = omega (arith, d .few); parts = d .parts; place = omega (arith, d .all) }
@@ -109,12 +101,12 @@ module _ (s : List ℕ) (f : FieldDescriptor) (used : ℕ) where
   )
 
 pub field-whole-is-prefix : FieldWholeIsPrefix
-field-whole-is-prefix s f used = whole-is-prefix s f used (λ h. begins-within s f used (field-read s f used h .1))
+field-whole-is-prefix s f used = whole-is-prefix s f used (λ h. begins-short s f used (field-read s f used h .1))
 
 return-within-text : (s : List ℕ) (f : FieldDescriptor) (used : ℕ) → returnPrefix s ≡ field.Parsed f used → used ≤ length s
 return-within-text s f used h =
     let read = within-limit s f used (return-within s) (return-over s) h in
-    ⊎-elim (λ v. rw (v .0) (omega (arith, v .2))) (begins-within s f used) (return-exactly 0 s f used .0 (read .1))
+    ⊎-elim (λ v. rw (v .0) (omega (arith, v .2))) (begins-short s f used) (return-exactly 0 s f used .0 (read .1))
 
 pub return-whole-is-prefix : ReturnWholeIsPrefix
 return-whole-is-prefix s f used = whole-is-prefix s f used (return-within-text s f used)
@@ -124,7 +116,7 @@ field-text-exactly s f used = (
   λ h.
       let w = field-whole-is-prefix s f used .0 h in
       let read = field-read s f used (w .0) in
-      begins-all s f used (read .0) (w .1) (read .1),
+      begins-derived s f used (read .0) (w .1) (read .1),
   λ d. field-whole-is-prefix s f used .1 (derived-prefix s f used d, d .all),
 )
 
@@ -135,7 +127,7 @@ return-text-exactly s f used = (to, ⊎-elim from-void from-field)
     to h =
         let w = return-whole-is-prefix s f used .0 h in
         let read = within-limit s f used (return-within s) (return-over s) (w .0) in
-        ⊎-elim inl (λ b. inr (begins-all s f used (read .0) (w .1) b)) (return-exactly 0 s f used .0 (read .1))
+        ⊎-elim inl (λ b. inr (begins-derived s f used (read .0) (w .1) b)) (return-exactly 0 s f used .0 (read .1))
 
     from : length s ≤ textLimit → used ≡ length s → ((s ≡ ascii "V") × (f ≡ void) × (used ≡ 1)) ⊎ BeginsField 0 0 s f used → returnText s ≡ field.Parsed f used
     from short all h = return-whole-is-prefix s f used .1 (return-within s short ∙ return-exactly 0 s f used .1 h, all)

@@ -1,7 +1,7 @@
 -- The readings of field descriptors and the grammar agree, and the grammar derives a text in one way.
 use Prim.Native.Nat.{ℕ, _+_, _-_, _≤_, _<_}
 use mathlib.Core.Bool.{Bool, true, false, Bool-set, false≢true}
-use mathlib.Core.List.{List, [], _∷_, _++_, append-assoc, append-cancel-right, head-eq-of-cons-eq, tail-eq-of-cons-eq, List·Memᴰ·head, List·Memᴰ·tail, List·Memᴰ·append-cases, List·Memᴰ·cases-cons}
+use mathlib.Core.List.{List, [], _∷_, _++_, append-assoc, append-nil, append-cancel-right, head-eq-of-cons-eq, tail-eq-of-cons-eq, List·Memᴰ·head, List·Memᴰ·tail, List·Memᴰ·append-cases, List·Memᴰ·cases-cons}
 use mathlib.Core.Logic.{⊎-elim}
 use mathlib.Core.Path.{_≡_, refl, sym, ap, ap₂, _∙_, pathJ}
 use native.Mathlib.Omega.{arith}
@@ -98,11 +98,25 @@ some-text (FieldType.base-type p) = omega arith
 some-text (FieldType.object-type name e c q) = omega arith
 some-text (FieldType.array-type e t) = omega arith
 
+-- it ends in what is left, and if it ends with it, it is all of it
+module _ {d at : ℕ} {s : List ℕ} {f : FieldDescriptor} {next : ℕ} (b : BeginsField d at s f next) where
+  long : length s ≡ length (b .text) + length (b .rest)
+  long = ap length (b .split) ∙ length-append (b .text) (b .rest)
+
+  pub begins-within : next ≤ at + length s
+  begins-within = omega (arith, b .place, long)
+
+  pub begins-all : next ≡ at + length s → s ≡ b .text
+  begins-all all = b .split ∙ ap (λ (l : List ℕ). b .text ++ l) (nothing (b .rest) (omega (arith, b .place, long))) ∙ append-nil (b .text)
+    where
+      nothing : (l : List ℕ) → length l ≡ 0 → l ≡ []
+      nothing [] h = refl
+      nothing (x ∷ l) h = absurd (omega arith)
+
 pub field-ends-in : (t : List ℕ) (at : ℕ) (f : FieldDescriptor) (next : ℕ) → at ≤ length t → fieldFrom 0 at (drop at t) ≡ field.Parsed f next → (at < next) × (next ≤ length t)
 field-ends-in t at f next h q =
     let b = field-begins 0 at (drop at t) f next (omega arith) q in
-    let long : length t - at ≡ length (b .text) + length (b .rest) = sym (length-drop at t) ∙ ap length (b .split) ∙ length-append (b .text) (b .rest) in
-    omega (arith, b .place, some-text (b .tree))
+    omega (arith, b .place, some-text (b .tree), length-drop at t, begins-within b)
 
 -- From a derivation to a reading.
 pub field-run : (d at : ℕ) {text : List ℕ} (tree : FieldType text) (rest : List ℕ) → d + dimensions tree ≤ maxDimensions → fieldFrom d at (text ++ rest) ≡ field.Parsed (partsAt d at tree) (at + length text)

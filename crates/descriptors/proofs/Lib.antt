@@ -1,3 +1,4 @@
 pub mod Laws
 pub mod Grammar
 pub mod Entries
+pub mod Examples

@@ -1,22 +1,19 @@
 -- The readings of method descriptors and the grammar agree, and the grammar derives a text in one way.
-use Prim.Native.Nat.{ℕ, zero, suc, _+_, _-_, _≤_, _<_}
-use mathlib.Core.Bool.{Bool, true, false, So, false≢true}
-use mathlib.Core.List.{List, [], _∷_, _++_, append-assoc, append-nil, head-eq-of-cons-eq, tail-eq-of-cons-eq}
-use mathlib.Core.Logic.{_↔_, _⊎_, inl, inr, ⊎-elim}
+use Prim.Native.Nat.{ℕ, zero, suc, _+_, _-_, _<_}
+use mathlib.Core.Bool.{false, So, false≢true}
+use mathlib.Core.List.{List, [], _∷_, _++_, append-assoc, append-nil, tail-eq-of-cons-eq}
 use mathlib.Core.Path.{_≡_, refl, sym, ap, ap₂, _∙_, subst, pathJ}
 use native.Mathlib.Nat.{zero-add}
 use native.Mathlib.Omega.{arith}
 use borrow.Author.Tests.{ne-eqb}
 use lib.ListN.{length, drop, length-append}
 use lib.Seq.{drop-at}
-use Rattle.laws.specs.Bytes.{byte, ascii, beginsWith, textLimit}
+use Rattle.laws.specs.Bytes.{byte, ascii, beginsWith}
 use Rattle.laws.proofs.Lists.{begins-cons}
 use Rattle.names.proofs.Joined.{text-set}
 use Rattle.descriptors.specs.declared.FieldDescriptor.{FieldDescriptor}
-use Rattle.descriptors.specs.declared.Field.{Field}
-use Rattle.descriptors.specs.declared.Field.the-variants as field
-use Rattle.descriptors.specs.Texts.{maxDimensions, isBaseType, fieldFrom, returnFrom}
-use Rattle.descriptors.specs.Grammar.{FieldType, ReturnDescriptor, dimensions, partsAt}
+use Rattle.descriptors.specs.Texts.{isBaseType}
+use Rattle.descriptors.specs.Grammar.{FieldType, ReturnDescriptor, partsAt}
 use Rattle.descriptors.specs.Theorems.{BeginsField}
 use Rattle.descriptors.proofs.Grammar.{field-begins, field-run, some-text, one-derivation as one-field, one-beginning as one-field-beginning}
 use Rattle.descriptors.proofs.Entries.{return-exactly}
@@ -173,8 +170,7 @@ method-exactly s r = (to, from)
         let m = b .begins in
         let open-s = opening-good s (b .short) (begins-cons (byte "(") s .1 (b .rest, b .opens)) in
         let long : length s ≡ suc (length (m .parameters) + suc (length (m .follows))) = ap length (b .opens) ∙ ap suc (ap length (m .split) ∙ length-append (m .parameters) (byte ")" ∷ m .follows)) in
-        let run = rest-run (length s) 1 (m .trees) (m .few) (m .follows) (m .return) (m .used) (m .returns) (omega arith) in
-        (
+        let run = rest-run (length s) 1 (m .trees) (m .few) (m .follows) (m .return) (m .used) (m .returns) (omega arith) in (
           reading-opened s open-s ∙ ap (λ (l : List ℕ). restFrom (length s) 1 (drop 1 l)) (b .opens) ∙ ap (restFrom (length s) 1) (m .split) ∙ run ∙ sym (m .reading),
           rw (m .reading) (accepted-run 1 (m .trees) (m .return) (m .used)),
         )

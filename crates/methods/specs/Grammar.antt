@@ -32,3 +32,29 @@ number (Parameters.more p rest t ts e) = suc (number ts)
 unfoldable pub readingAt : ℕ → {s : List ℕ} → Parameters s → Reading → Reading
 readingAt at Parameters.none follows = follows
 readingAt at (Parameters.more p rest t ts e) follows = Reading.parameter at (partsAt 0 at t) (readingAt (at + length p) ts follows)
+
+-- the parts of a return descriptor whose text starts at `at`
+unfoldable pub returnAt : ℕ → {s : List ℕ} → ReturnDescriptor s → FieldDescriptor
+returnAt at (ReturnDescriptor.value t) = partsAt 0 at t
+returnAt at (ReturnDescriptor.void e) = voidParts
+
+abbrev pub FewInReturn : {s : List ℕ} → ReturnDescriptor s → Type 0
+FewInReturn (ReturnDescriptor.value t) = dimensions t ≤ maxDimensions
+FewInReturn (ReturnDescriptor.void e) = Unit {0}
+
+-- of a whole descriptor: how many parameters there are, the parts of each and of the return, and the limit of dimensions
+unfoldable pub parameterCount : {s : List ℕ} → MethodDescriptor s → ℕ
+parameterCount (MethodDescriptor.method p r ps t e) = number ps
+
+unfoldable pub listAt : ℕ → {s : List ℕ} → Parameters s → List FieldDescriptor
+listAt at Parameters.none = []
+listAt at (Parameters.more p rest t ts e) = partsAt 0 at t ∷ listAt (at + length p) ts
+
+unfoldable pub parameterParts : {s : List ℕ} → MethodDescriptor s → List FieldDescriptor
+parameterParts (MethodDescriptor.method p r ps t e) = listAt 1 ps
+
+unfoldable pub returnParts : {s : List ℕ} → MethodDescriptor s → FieldDescriptor
+returnParts (MethodDescriptor.method p r ps t e) = returnAt (1 + length p + 1) t
+
+abbrev pub FewInMethod : {s : List ℕ} → MethodDescriptor s → Type 0
+FewInMethod (MethodDescriptor.method p r ps t e) = FewDimensions ps × FewInReturn t

@@ -4,15 +4,14 @@ use mathlib.Core.Bool.{Bool, true, false, So}
 use mathlib.Core.List.{List, [], _∷_, _++_}
 use mathlib.Core.Logic.{_↔_, _⊎_}
 use mathlib.Core.Path.{_≡_}
-use lib.ListN.{length, drop}
+use lib.ListN.{length, drop, replicate}
 use Rattle.laws.specs.Bytes.{byte, ascii, textLimit}
 use Rattle.descriptors.specs.declared.FieldDescriptor.{FieldDescriptor}
-use Rattle.descriptors.specs.Texts.{maxDimensions, void}
-use Rattle.descriptors.specs.Grammar.{FieldType, ReturnDescriptor}
+use Rattle.descriptors.specs.Texts.{void}
 use Rattle.descriptors.specs.Theorems.{BeginsField}
 use Rattle.methods.specs.declared.Method.the-variants as method
-use Rattle.methods.specs.Texts.{Reading, methodReading, partWords, words, roomOf, within, answerFrom, storeFrom, methodPrefix, methodText, methodCheck, isMethodText, textStore}
-use Rattle.methods.specs.Grammar.{Parameters, MethodDescriptor, FewDimensions, readingAt}
+use Rattle.methods.specs.Texts.{Reading, methodReading, partWords, words, roomOf, methodPrefix, methodText, isMethodText, textStore}
+use Rattle.methods.specs.Grammar.{Parameters, MethodDescriptor, FewDimensions, FewInMethod, readingAt, parameterCount, parameterParts, returnParts}
 
 -- A text has one derivation: proved as `one-derivation`
 abbrev pub OneDerivation : Type 0
@@ -55,3 +54,47 @@ pub record BeginsMethod (s : List ℕ) (r : Reading) : Type 0 where
 -- `method-exactly`
 abbrev pub MethodExactly : Type 0
 MethodExactly = (s : List ℕ) (r : Reading) → ((methodReading s ≡ r) × So (accepted r)) ↔ BeginsMethod s r
+
+-- the whole text, within the limits and the store's room, is derived
+pub record DerivedMethod (room : ℕ) (s : List ℕ) (count : ℕ) (f : FieldDescriptor) (used : ℕ) : Type 0 where
+  pub short : length s ≤ textLimit
+  pub tree : MethodDescriptor s
+  pub few : FewInMethod tree
+  pub counted : count ≡ parameterCount tree
+  pub fits : count ≤ room
+  pub parts : f ≡ returnParts tree
+  pub all : used ≡ length s
+
+-- A whole reading accepts exactly the texts that the grammar derives: proved as `method-text-exactly`
+abbrev pub MethodTextExactly : Type 0
+MethodTextExactly =
+    (room : ℕ) (s : List ℕ) (count : ℕ) (f : FieldDescriptor) (used : ℕ)
+    → (methodText room s ≡ method.Parsed count f used) ↔ DerivedMethod room s count f used
+
+-- the words of parts, record after record
+unfoldable pub allWords : List FieldDescriptor → List ℕ
+allWords [] = []
+allWords (f ∷ fs) = words f ++ allWords fs
+
+-- Accepted, the store has the parts of the derivation's parameters in front, and the words past them are as they were:
+-- proved as `accepted-store`
+abbrev pub AcceptedStore : Type 0
+AcceptedStore =
+    (store s : List ℕ) (count : ℕ) (f : FieldDescriptor) (used : ℕ) → methodText (roomOf store) s ≡ method.Parsed count f used
+    → (tree : MethodDescriptor s) → textStore store s ≡ allWords (parameterParts tree) ++ drop (count * partWords) store
+
+-- Refused, every word of the store is zero: proved as `refused-store`
+abbrev pub RefusedStore : Type 0
+RefusedStore =
+    (store s : List ℕ) (n p : ℕ) → methodText (roomOf store) s ≡ method.Refused n p → textStore store s ≡ replicate (length store) 0
+
+-- A whole reading is a prefix reading with nothing left over: proved as `whole-is-prefix`
+abbrev pub WholeIsPrefix : Type 0
+WholeIsPrefix =
+    (room : ℕ) (s : List ℕ) (count : ℕ) (f : FieldDescriptor) (used : ℕ)
+    → (methodText room s ≡ method.Parsed count f used) ↔ ((methodPrefix room s ≡ method.Parsed count f used) × (used ≡ length s))
+
+-- The yes/no check agrees with the reading, given room: proved as `check-agrees`
+abbrev pub CheckAgrees : Type 0
+CheckAgrees =
+    (s : List ℕ) → So (isMethodText s) ↔ ((room count : ℕ) × (f : FieldDescriptor) × (used : ℕ) × (methodText room s ≡ method.Parsed count f used))
