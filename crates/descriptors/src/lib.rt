@@ -7,7 +7,7 @@ ghost use mathlib.Core.Path.{_≡_};
 ghost use Prim.Native.Nat.{_+_, _≤_, _<_};
 ghost use lib.ListN.{length, getD, drop};
 ghost use Rattle.laws.specs.Bytes.{beginsWith, textLimit};
-ghost use Rattle.descriptors.specs.Texts.{isBaseType, isVoid, isAccepted, base, object, objectFrom, typeFrom, fieldFrom, returnFrom, whole, fieldPrefix, fieldText, returnPrefix, returnText, arrayText, isFieldText, isReturnText, isArrayText};
+ghost use Rattle.descriptors.specs.Texts.{isBaseType, isVoid, isAccepted, base, void, object, objectFrom, typeFrom, fieldFrom, returnFrom, whole, fieldPrefix, fieldText, returnPrefix, returnText, arrayText, isFieldText, isReturnText, isArrayText};
 
 // Document 01's refusals of a text.
 pub const TYPE_DUE: u32 = 22;
@@ -32,7 +32,6 @@ pub struct FieldDescriptor {
 impl FieldDescriptor {
     pub const MAX_DIMENSIONS: u32 = 255;
 
-    // A base type, or `V`.
     pub fn base(dimensions: u32, letter: u32) -> Self
         ensures { λ r. ⌜ r ≡ base dimensions letter ⌝ }
     {
@@ -44,12 +43,18 @@ impl FieldDescriptor {
         }
     }
 
+    pub fn void() -> Self
+        ensures { λ r. ⌜ r ≡ void ⌝ }
+    {
+        FieldDescriptor::base(0, b'V' as u32)
+    }
+
     pub fn object(dimensions: u32, start: u32, length: u32) -> Self
         ensures { λ r. ⌜ r ≡ object dimensions start length ⌝ }
     {
         Self {
             dimensions,
-            letter: 76,
+            letter: b'L' as u32,
             start,
             length,
         }
@@ -155,7 +160,7 @@ pub fn return_at(text: &[u8], start: usize) -> Field
     ensures { λ r. ⌜ r ≡ returnFrom start (drop start (now (text .entry))) ⌝ }
 {
     if is_void(text, start) {
-        return Field::Parsed(FieldDescriptor::base(0, 86), start + 1);
+        return Field::Parsed(FieldDescriptor::void(), start + 1);
     }
     field_at(text, start)
 }

@@ -11,7 +11,7 @@ add-t5 c =
     omega (arith, void-in (a .text .now) (a .start) (sym (c .before .before .is-void .ensures) ∙ c .before .if1 .taken))
 
 returns : tie.Need-returns
-returns c = rw (c .base .ensures) (sym (return-void _ _ (sym (c .before .before .is-void .ensures) ∙ c .before .if1 .taken)))
+returns c = rw (c .void .ensures) (sym (return-void _ _ (sym (c .before .before .is-void .ensures) ∙ c .before .if1 .taken)))
 
 returns-2 : tie.Need-returns-2
 returns-2 c = c .field-at .ensures ∙ sym (return-value _ _ (sym (c .before .before .is-void .ensures) ∙ c .before .if1 .left))
