@@ -69,6 +69,7 @@ pub fn name_end(text: &[u8], start: usize) -> NameEnd
     NameEnd::TextEnd(at)
 }
 
+// A class name that stands alone, as in the constant pool: the last segment may be empty, and no `;` may stand in it.
 pub fn class_name(text: &[u8]) -> Checked
     ensures { λ r. ⌜ r ≡ className (now (text .entry)) ⌝ }
 {

@@ -180,6 +180,7 @@ fn all_used(length: usize, reading: Field) -> Field
     }
 }
 
+// The field descriptor that a text begins with; what follows it is ignored.
 pub fn field_prefix(text: &[u8]) -> Field
     ensures { λ r. ⌜ r ≡ fieldPrefix (now (text .entry)) ⌝ }
 {
@@ -189,12 +190,14 @@ pub fn field_prefix(text: &[u8]) -> Field
     field_at(text, 0)
 }
 
+// A text that is a field descriptor and nothing more.
 pub fn field_whole(text: &[u8]) -> Field
     ensures { λ r. ⌜ r ≡ fieldText (now (text .entry)) ⌝ }
 {
     all_used(text.len(), field_prefix(text))
 }
 
+// The same for a return descriptor, in which `V` is void only as the entire rest of the text.
 pub fn return_prefix(text: &[u8]) -> Field
     ensures { λ r. ⌜ r ≡ returnPrefix (now (text .entry)) ⌝ }
 {
@@ -217,6 +220,7 @@ pub fn begins_with(text: &[u8], at: usize, b: u8) -> bool
     at < text.len() && text[at] == b
 }
 
+// A text that is a field descriptor of an array and nothing more.
 pub fn array_whole(text: &[u8]) -> Array
     ensures { λ r. ⌜ r ≡ arrayText (now (text .entry)) ⌝ }
 {
@@ -241,6 +245,7 @@ fn is_accepted(reading: Field) -> bool
     }
 }
 
+// Yes or no, as the whole readings accept or refuse.
 pub fn is_field_descriptor(text: &[u8]) -> bool
     ensures { λ r. ⌜ r ≡ isFieldText (now (text .entry)) ⌝ }
 {

@@ -1,7 +1,7 @@
 -- The theorems on whole texts and on the store, from those on what begins a text.
 use Prim.Native.Nat.{ℕ, zero, suc, _+_, _*_, _≤_, _<_}
 use mathlib.Core.Bool.{Bool, true, false, So, false≢true}
-use mathlib.Core.List.{List, [], _∷_, _++_, append-nil}
+use mathlib.Core.List.{List, [], _∷_, _++_, append-assoc, append-nil}
 use mathlib.Core.Logic.{_↔_, inl, inr, ⊎-elim}
 use mathlib.Core.Path.{_≡_, refl, sym, ap, ap₂, _∙_, subst}
 use native.Mathlib.Nat.{zero-add}
@@ -10,7 +10,7 @@ use borrow.Author.Tests.{ltb-true, ltb-false, leb-true, leb-false}
 use lib.Dec.{ltb, leb}
 use lib.ListN.{length, take, drop, replicate, length-append, take-append-drop}
 use lib.Seq.{sets, length-sets}
-use Rattle.laws.specs.Bytes.{byte}
+use Rattle.laws.specs.Bytes.{byte, ascii}
 use Rattle.store.proofs.Records.{then-record}
 use Rattle.descriptors.specs.declared.FieldDescriptor.{FieldDescriptor}
 use Rattle.descriptors.specs.Texts.{void}
@@ -20,7 +20,7 @@ use Rattle.methods.specs.declared.Method.{Method}
 use Rattle.methods.specs.declared.Method.the-variants as method
 use Rattle.methods.specs.Texts.{Reading, methodReading, partWords, words, roomOf, within, answerFrom, storeFrom, whole, methodPrefix, methodText, methodCheck, filled, storeAfter, isAccepted}
 use Rattle.methods.specs.Grammar.{Parameters, MethodDescriptor, FewInReturn, FewInMethod, number, readingAt, listAt, returnAt, parameterCount, parameterParts, returnParts}
-use Rattle.methods.specs.Theorems.{accepted, BeginsReturn, BeginsRest, BeginsMethod, DerivedMethod, MethodTextExactly, allWords, AcceptedStore, RefusedStore, WholeIsPrefix, CheckAgrees}
+use Rattle.methods.specs.Theorems.{accepted, BeginsReturn, BeginsRest, BeginsMethod, DerivedMethod, MethodTextExactly, allWords, AcceptedStore, RefusedStore, WholeIsPrefix, CheckAgrees, PrefixDerived}
 use Rattle.methods.proofs.Laws.{some-left, none-left}
 use Rattle.methods.proofs.Grammar.{method-exactly, one-derivation}
 
@@ -118,6 +118,36 @@ module _ (at : ℕ) (s : List ℕ) (f : FieldDescriptor) (used : ℕ) where
   unfolding returnAt
   derived-return (ReturnDescriptor.value t) few parts all = inr (record { text = s; rest = []; tree = t; split = sym (append-nil s); few = rw zero-add few; parts = parts; place = all })
   derived-return (ReturnDescriptor.void e) few parts all = inl (e, parts, all ∙ ap (λ (l : List ℕ). at + length l) e)
+
+-- what begins with a return part: a derived text, and the rest
+record ReturnBeginning (at : ℕ) (s : List ℕ) (f : FieldDescriptor) (used : ℕ) : Type 0 where
+  text : List ℕ
+  rest : List ℕ
+  split : s ≡ text ++ rest
+  tree : ReturnDescriptor text
+  parts : f ≡ returnAt at tree
+  place : used ≡ at + length text
+
+return-beginning : (at : ℕ) (s : List ℕ) (f : FieldDescriptor) (used : ℕ) → BeginsReturn at s f used → ReturnBeginning at s f used
+unfolding returnAt
+return-beginning at s f used (inl v) = record { text = ascii "V"; rest = []; split = v .0; tree = ReturnDescriptor.void refl; parts = v .1; place = v .2 }
+return-beginning at s f used (inr b) = record { text = b .text; rest = b .rest; split = b .split; tree = ReturnDescriptor.value (b .tree); parts = b .parts; place = b .place }
+
+pub prefix-derived : PrefixDerived
+unfolding parameterCount returnParts
+prefix-derived room s count f used h =
+    let p = prefix-read room s count f used h in
+    let m = p .begins .begins in
+    let r = return-beginning _ (m .follows) (m .return) (m .used) (m .returns) in
+    record {
+      text = byte "(" ∷ m .parameters ++ byte ")" ∷ r .text;
+      rest = r .rest;
+      split = p .begins .opens ∙ ap (λ (l : List ℕ). byte "(" ∷ l) (m .split ∙ ap (λ (l : List ℕ). m .parameters ++ byte ")" ∷ l) (r .split) ∙ sym (append-assoc (m .parameters) (byte ")" ∷ r .text) (r .rest)));
+      tree = MethodDescriptor.method (m .parameters) (r .text) (m .trees) (r .tree) refl;
+      counted = p .counted;
+      parts = p .parts ∙ r .parts;
+      place = p .place ∙ r .place ∙ rw (length-append (byte "(" ∷ m .parameters) (byte ")" ∷ r .text)) (omega arith);
+    }
 
 -- A reading that must use all of n bytes.
 whole-refused : (n k p : ℕ) → whole n (method.Refused k p) ≡ method.Refused k p

@@ -19,7 +19,7 @@ use Rattle.descriptors.proofs.Grammar.{field-ends-in}
 use Rattle.methods.specs.declared.Method.{Method}
 use Rattle.methods.specs.declared.Method.the-variants as method
 use Rattle.methods.specs.declared.Next.the-variants as next
-use Rattle.methods.specs.Texts.{parameterOf, returnOf, nextFrom, Reading, restFrom, opening, methodReading, partWords, words, roomOf, within, answerFrom, storeFrom, storeAfter, whole, methodPrefix, filled}
+use Rattle.methods.specs.Texts.{parameterOf, returnOf, nextFrom, Reading, restFrom, restReading, opening, methodReading, partWords, words, roomOf, within, answerFrom, storeFrom, storeAfter, whole, methodPrefix, filled}
 
 module _ (at : ℕ) (s : List ℕ) where
   pub next-return : beginsWith (byte ")") s ≡ true → nextFrom at s ≡ returnOf (returnFrom (at + 1) (drop 1 s))
@@ -152,7 +152,7 @@ module _ (text : List ℕ) (count at : ℕ) (h : count < length text) where
 pub record Scan (text : List ℕ) (count at : ℕ) : Type 0 where
   pub counted : count < at
   pub inside : at ≤ length text
-  pub decides : answerFrom count (restAt text count at) ≡ answerFrom 0 (restFrom (length text) 1 (drop 1 text))
+  pub decides : answerFrom count (restAt text count at) ≡ answerFrom 0 (restReading text)
 
 pub scan-start : (text : List ℕ) → 1 ≤ length text → Scan text 0 1
 scan-start text h = record { counted = omega arith; inside = h; decides = rw (sub-zero (length text)) refl }
@@ -161,11 +161,11 @@ module _ (text : List ℕ) (count at : ℕ) (l : Scan text count at) where
   below : count < length text
   below = omega (arith, l .counted, l .inside)
 
-  pub scan-return : (f : FieldDescriptor) (used : ℕ) → nextFrom at (drop at text) ≡ next.Return f used → method.Parsed count f used ≡ answerFrom 0 (restFrom (length text) 1 (drop 1 text))
+  pub scan-return : (f : FieldDescriptor) (used : ℕ) → nextFrom at (drop at text) ≡ next.Return f used → method.Parsed count f used ≡ answerFrom 0 (restReading text)
   unfolding answerFrom
   scan-return f used e = sym (ap (answerFrom count) (run-return text count at below f used e)) ∙ l .decides
 
-  pub scan-refused : (n p : ℕ) → nextFrom at (drop at text) ≡ next.Refused n p → method.Refused n p ≡ answerFrom 0 (restFrom (length text) 1 (drop 1 text))
+  pub scan-refused : (n p : ℕ) → nextFrom at (drop at text) ≡ next.Refused n p → method.Refused n p ≡ answerFrom 0 (restReading text)
   unfolding answerFrom
   scan-refused n p e = sym (ap (answerFrom count) (run-refused text count at below n p e)) ∙ l .decides
 
@@ -201,10 +201,10 @@ pub record Fill (text store₀ store : List ℕ) (count at : ℕ) : Type 0 where
   pub fits : count ≤ roomOf store₀
   pub decides :
       answerFrom count (within (roomOf store₀ - count) (restAt text count at))
-      ≡ answerFrom 0 (within (roomOf store₀) (restFrom (length text) 1 (drop 1 text)))
+      ≡ answerFrom 0 (within (roomOf store₀) (restReading text))
   pub fills :
       storeFrom store count (within (roomOf store₀ - count) (restAt text count at))
-      ≡ storeFrom store₀ 0 (within (roomOf store₀) (restFrom (length text) 1 (drop 1 text)))
+      ≡ storeFrom store₀ 0 (within (roomOf store₀) (restReading text))
 
 pub fill-start : (text store : List ℕ) → 1 ≤ length text → Fill text store store 0 1
 fill-start text store h =
@@ -224,21 +224,21 @@ module _ (text store₀ store : List ℕ) (count at : ℕ) (l : Fill text store�
   -- what is left is the reading r
   fill-is :
       {r : Reading} → within (roomOf store₀ - count) (restAt text count at) ≡ r
-      → (answerFrom count r ≡ answerFrom 0 (within (roomOf store₀) (restFrom (length text) 1 (drop 1 text))))
-      × (storeFrom store count r ≡ storeFrom store₀ 0 (within (roomOf store₀) (restFrom (length text) 1 (drop 1 text))))
+      → (answerFrom count r ≡ answerFrom 0 (within (roomOf store₀) (restReading text)))
+      × (storeFrom store count r ≡ storeFrom store₀ 0 (within (roomOf store₀) (restReading text)))
   fill-is e = (sym (ap (answerFrom count) e) ∙ l .decides, sym (ap (storeFrom store count) e) ∙ l .fills)
 
   pub fill-return :
       (f : FieldDescriptor) (used : ℕ) → nextFrom at (drop at text) ≡ next.Return f used
-      → (method.Parsed count f used ≡ answerFrom 0 (within (roomOf store₀) (restFrom (length text) 1 (drop 1 text))))
-      × (store ≡ storeFrom store₀ 0 (within (roomOf store₀) (restFrom (length text) 1 (drop 1 text))))
+      → (method.Parsed count f used ≡ answerFrom 0 (within (roomOf store₀) (restReading text)))
+      × (store ≡ storeFrom store₀ 0 (within (roomOf store₀) (restReading text)))
   unfolding within answerFrom storeFrom
   fill-return f used e = fill-is (ap (within _) (run-return text count at lies-below f used e))
 
   pub fill-refused :
       (n p : ℕ) → nextFrom at (drop at text) ≡ next.Refused n p
-      → (method.Refused n p ≡ answerFrom 0 (within (roomOf store₀) (restFrom (length text) 1 (drop 1 text))))
-      × (store ≡ storeFrom store₀ 0 (within (roomOf store₀) (restFrom (length text) 1 (drop 1 text))))
+      → (method.Refused n p ≡ answerFrom 0 (within (roomOf store₀) (restReading text)))
+      × (store ≡ storeFrom store₀ 0 (within (roomOf store₀) (restReading text)))
   unfolding within answerFrom storeFrom
   fill-refused n p e = fill-is (ap (within _) (run-refused text count at lies-below n p e))
 
@@ -248,8 +248,8 @@ module _ (text store₀ store : List ℕ) (count at : ℕ) (l : Fill text store�
 
     pub fill-full :
         count ≡ roomOf store₀
-        → (method.Refused 30 at ≡ answerFrom 0 (within (roomOf store₀) (restFrom (length text) 1 (drop 1 text))))
-        × (store ≡ storeFrom store₀ 0 (within (roomOf store₀) (restFrom (length text) 1 (drop 1 text))))
+        → (method.Refused 30 at ≡ answerFrom 0 (within (roomOf store₀) (restReading text)))
+        × (store ≡ storeFrom store₀ 0 (within (roomOf store₀) (restReading text)))
     unfolding answerFrom storeFrom
     fill-full full = fill-is (within-full (roomOf store₀) count at f full (run-parameter text count at lies-below f after (ends .0) e))
 
@@ -281,7 +281,7 @@ opened-text s e =
     let facts = opening-facts s e in
     (facts .0, begins-in (byte "(") s 0 (facts .1))
 
-pub reading-opened : (s : List ℕ) → opening s ≡ 0 → methodReading s ≡ restFrom (length s) 1 (drop 1 s)
+pub reading-opened : (s : List ℕ) → opening s ≡ 0 → methodReading s ≡ restReading s
 unfolding methodReading
 reading-opened s e = rw (e, methodReading)
 
@@ -301,7 +301,7 @@ module _ (s : List ℕ) (n : ℕ) (e : methodReading s ≡ Reading.refused n 0) 
 
 pub read-opened :
     (s store after : List ℕ) (answer : Method) → opening s ≡ 0
-    → (answer ≡ answerFrom 0 (within (roomOf store) (restFrom (length s) 1 (drop 1 s))))
-    × (after ≡ storeFrom store 0 (within (roomOf store) (restFrom (length s) 1 (drop 1 s))))
+    → (answer ≡ answerFrom 0 (within (roomOf store) (restReading s)))
+    × (after ≡ storeFrom store 0 (within (roomOf store) (restReading s)))
     → (answer ≡ methodPrefix (roomOf store) s) × (after ≡ filled store s)
 read-opened s store after answer e h = rw (reading-opened s e) h

@@ -50,12 +50,15 @@ restFrom (suc most) at s =
       | next.Refused n p ↦ Reading.refused n p
     ]
 
+abbrev pub restReading : List ℕ → Reading
+restReading s = restFrom (length s) 1 (drop 1 s)
+
 -- 21: the text is over the limit. 29: no ( first
 unfoldable pub opening : List ℕ → ℕ
 opening s = elim (withinLimit s) [ true ↦ elim (beginsWith (byte "(") s) [ true ↦ 0 | false ↦ 29 ] | false ↦ 21 ]
 
 unfoldable pub methodReading : List ℕ → Reading
-methodReading s = elim (opening s) [ zero ↦ restFrom (length s) 1 (drop 1 s) | suc n ↦ Reading.refused (suc n) 0 ]
+methodReading s = elim (opening s) [ zero ↦ restReading s | suc n ↦ Reading.refused (suc n) 0 ]
 
 -- The store of the parameters: a record of four words each. 30: no record is left
 abbrev pub partWords : ℕ

@@ -55,6 +55,22 @@ pub record BeginsMethod (s : List ℕ) (r : Reading) : Type 0 where
 abbrev pub MethodExactly : Type 0
 MethodExactly = (s : List ℕ) (r : Reading) → ((methodReading s ≡ r) × So (accepted r)) ↔ BeginsMethod s r
 
+-- a beginning of the text is derived: its length is the bytes used
+pub record DerivedBeginning (s : List ℕ) (count : ℕ) (f : FieldDescriptor) (used : ℕ) : Type 0 where
+  pub text : List ℕ
+  pub rest : List ℕ
+  pub split : s ≡ text ++ rest
+  pub tree : MethodDescriptor text
+  pub counted : count ≡ parameterCount tree
+  pub parts : f ≡ returnParts tree
+  pub place : used ≡ length text
+
+-- A prefix reading stops at the end of a derivable beginning, by `one-beginning` the only one: proved as `prefix-derived`
+abbrev pub PrefixDerived : Type 0
+PrefixDerived =
+    (room : ℕ) (s : List ℕ) (count : ℕ) (f : FieldDescriptor) (used : ℕ)
+    → methodPrefix room s ≡ method.Parsed count f used → DerivedBeginning s count f used
+
 -- the whole text, within the limits and the store's room, is derived
 pub record DerivedMethod (room : ℕ) (s : List ℕ) (count : ℕ) (f : FieldDescriptor) (used : ℕ) : Type 0 where
   pub short : length s ≤ textLimit

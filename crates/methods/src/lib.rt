@@ -10,7 +10,7 @@ ghost use Prim.Native.Nat.{_+_, _*_, _≤_};
 ghost use lib.ListN.{length, drop};
 ghost use lib.Seq.{sets};
 ghost use Rattle.laws.specs.Bytes.{textLimit};
-ghost use Rattle.methods.specs.Texts.{partWords, words, roomOf, nextFrom, restFrom, within, answerFrom, storeFrom, opening, methodReading, whole, isAccepted, methodPrefix, methodText, methodCheck, filled, storeAfter, prefixStore, textStore, isMethodText};
+ghost use Rattle.methods.specs.Texts.{partWords, words, roomOf, nextFrom, restReading, within, answerFrom, storeFrom, opening, methodReading, whole, isAccepted, methodPrefix, methodText, methodCheck, filled, storeAfter, prefixStore, textStore, isMethodText};
 
 // Document 01's refusals that only a method descriptor gets.
 pub const NO_PARENTHESIS: u32 = 29;
@@ -69,8 +69,8 @@ fn put_part(store: &mut [u32], index: usize, part: FieldDescriptor)
 // What stands after `(`, the parameters' records at the front of the store. A refusal leaves those read before it there.
 fn read_rest(text: &[u8], store: &mut [u32]) -> Method
     requires { ⌜ (length (now text) ≤ textLimit) × (1 ≤ length (now text)) ⌝ }
-    ensures answers { λ r. ⌜ r ≡ answerFrom 0 (within (roomOf (now (store .entry))) (restFrom (length (now (text .entry))) 1 (drop 1 (now (text .entry))))) ⌝ }
-    ensures fills { λ r. ⌜ now (store .exit) ≡ storeFrom (now (store .entry)) 0 (within (roomOf (now (store .entry))) (restFrom (length (now (text .entry))) 1 (drop 1 (now (text .entry))))) ⌝ }
+    ensures answers { λ r. ⌜ r ≡ answerFrom 0 (within (roomOf (now (store .entry))) (restReading (now (text .entry)))) ⌝ }
+    ensures fills { λ r. ⌜ now (store .exit) ≡ storeFrom (now (store .entry)) 0 (within (roomOf (now (store .entry))) (restReading (now (text .entry)))) ⌝ }
 {
     let room = store.len() / PART_WORDS;
     let mut count = 0;
@@ -98,7 +98,7 @@ fn read_rest(text: &[u8], store: &mut [u32]) -> Method
 // The same with no store.
 fn check_rest(text: &[u8]) -> Method
     requires { ⌜ (length (now text) ≤ textLimit) × (1 ≤ length (now text)) ⌝ }
-    ensures { λ r. ⌜ r ≡ answerFrom 0 (restFrom (length (now (text .entry))) 1 (drop 1 (now (text .entry)))) ⌝ }
+    ensures { λ r. ⌜ r ≡ answerFrom 0 (restReading (now (text .entry))) ⌝ }
 {
     let mut count = 0;
     let mut at = 1;
@@ -183,6 +183,7 @@ fn check_method(text: &[u8]) -> Method
     check_rest(text)
 }
 
+// The method descriptor that a text begins with; what follows it is ignored.
 pub fn method_prefix(text: &[u8], store: &mut [u32]) -> Method
     ensures answers { λ r. ⌜ r ≡ methodPrefix (roomOf (now (store .entry))) (now (text .entry)) ⌝ }
     ensures stores { λ r. ⌜ now (store .exit) ≡ prefixStore (now (store .entry)) (now (text .entry)) ⌝ }
@@ -191,6 +192,7 @@ pub fn method_prefix(text: &[u8], store: &mut [u32]) -> Method
     settled(store, answer)
 }
 
+// A text that is a method descriptor and nothing more.
 pub fn method_whole(text: &[u8], store: &mut [u32]) -> Method
     ensures answers { λ r. ⌜ r ≡ methodText (roomOf (now (store .entry))) (now (text .entry)) ⌝ }
     ensures stores { λ r. ⌜ now (store .exit) ≡ textStore (now (store .entry)) (now (text .entry)) ⌝ }
