@@ -16,7 +16,8 @@ use Rattle.class_names.specs.declared.NameEnd.{NameEnd}
 use Rattle.class_names.specs.declared.NameEnd.the-variants as name-end
 use Rattle.class_names.specs.Names.{nameFrom}
 
--- The limit of dimensions, that of JVMS 4.3.2: "255 or fewer dimensions". In the code: `FieldDescriptor::MAX_DIMENSIONS`.
+-- Document 01: the limit of 255 dimensions, which JVMS 4.4.1 and 4.11 set too. In the code:
+-- `FieldDescriptor::MAX_DIMENSIONS`.
 abbrev pub maxDimensions : ℕ
 maxDimensions = 255
 

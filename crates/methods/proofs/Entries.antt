@@ -20,7 +20,7 @@ use Rattle.methods.specs.declared.Method.{Method}
 use Rattle.methods.specs.declared.Method.the-variants as method
 use Rattle.methods.specs.Texts.{Reading, methodReading, partWords, words, roomOf, within, answerFrom, storeFrom, whole, methodPrefix, methodText, methodCheck, filled, storeAfter, isAccepted}
 use Rattle.methods.specs.Grammar.{Parameters, MethodDescriptor, FewInReturn, FewInMethod, number, readingAt, listAt, returnAt, parameterCount, parameterParts, returnParts}
-use Rattle.methods.specs.Theorems.{accepted, BeginsReturn, BeginsRest, BeginsMethod, DerivedMethod, MethodTextExactly, allWords, AcceptedStore, RefusedStore, WholeIsPrefix, CheckAgrees, PrefixDerived}
+use Rattle.methods.specs.Theorems.{accepted, BeginsReturn, BeginsRest, BeginsMethod, DerivedMethod, MethodTextExactly, allWords, AcceptedStore, RefusedStore, WholeIsPrefix, CheckAgrees, DerivedBeginning, PrefixDerived, AcceptedPrefixStore, RefusedPrefixStore}
 use Rattle.methods.proofs.Laws.{some-left, none-left}
 use Rattle.methods.proofs.Grammar.{method-exactly, one-derivation}
 
@@ -133,10 +133,9 @@ unfolding returnAt
 return-beginning at s f used (inl v) = record { text = ascii "V"; rest = []; split = v .0; tree = ReturnDescriptor.void refl; parts = v .1; place = v .2 }
 return-beginning at s f used (inr b) = record { text = b .text; rest = b .rest; split = b .split; tree = ReturnDescriptor.value (b .tree); parts = b .parts; place = b .place }
 
-pub prefix-derived : PrefixDerived
+beginning-of : (room : ℕ) (s : List ℕ) (count : ℕ) (f : FieldDescriptor) (used : ℕ) → PrefixRead room s count f used → DerivedBeginning s count f used
 unfolding parameterCount returnParts
-prefix-derived room s count f used h =
-    let p = prefix-read room s count f used h in
+beginning-of room s count f used p =
     let m = p .begins .begins in
     let r = return-beginning _ (m .follows) (m .return) (m .used) (m .returns) in
     record {
@@ -148,6 +147,9 @@ prefix-derived room s count f used h =
       parts = p .parts ∙ r .parts;
       place = p .place ∙ r .place ∙ rw (length-append (byte "(" ∷ m .parameters) (byte ")" ∷ r .text)) (omega arith);
     }
+
+pub prefix-derived : PrefixDerived
+prefix-derived room s count f used h = beginning-of room s count f used (prefix-read room s count f used h)
 
 -- A reading that must use all of n bytes.
 whole-refused : (n k p : ℕ) → whole n (method.Refused k p) ≡ method.Refused k p
@@ -291,9 +293,15 @@ length-filled (Reading.parameter at f r) store k = length-filled r (sets store (
 length-filled (Reading.ended f used) store k = refl
 length-filled (Reading.refused n p) store k = refl
 
-pub refused-store : RefusedStore
+store-cleared : (store s : List ℕ) {answer : Method} {n p : ℕ} → answer ≡ method.Refused n p → storeAfter answer (filled store s) ≡ replicate (length store) 0
 unfolding storeAfter
-refused-store store s n p h = ap (λ (a : Method). storeAfter a (filled store s)) h ∙ ap (λ (i : ℕ). replicate i 0) (length-filled (within (roomOf store) (methodReading s)) store 0)
+store-cleared store s h = ap (λ (a : Method). storeAfter a (filled store s)) h ∙ ap (λ (i : ℕ). replicate i 0) (length-filled (within (roomOf store) (methodReading s)) store 0)
+
+pub refused-store : RefusedStore
+refused-store store s n p h = store-cleared store s h
+
+pub refused-prefix-store : RefusedPrefixStore
+refused-prefix-store store s n p h = store-cleared store s h
 
 -- the records of parameters, written from the record k on
 store-run :
@@ -321,16 +329,29 @@ store-run f used k at (suc room) (Parameters.more p rest t ts e) store h fits =
     put : List ℕ
     put = sets store (k * partWords) (words part)
 
-pub accepted-store : AcceptedStore
-unfolding storeAfter parameterParts
-accepted-store store s count f used h tree =
-    let t = text-read (roomOf store) s count f used h in
-    let p = t .0 in
+-- accepted, the store has the parameters' records in front, and the rest of it after them
+store-kept :
+    (store s : List ℕ) {answer : Method} {count : ℕ} {f : FieldDescriptor} {used : ℕ} → answer ≡ method.Parsed count f used → (p : PrefixRead (roomOf store) s count f used)
+    → storeAfter answer (filled store s) ≡ allWords (listAt 1 (p .begins .begins .trees)) ++ drop (count * partWords) store
+unfolding storeAfter
+store-kept store s {count = count} h p =
     let m = p .begins .begins in
     let run = store-run (m .return) (m .used) 0 1 (roomOf store) (m .trees) store (omega (arith, p .counted, p .fits)) (omega (arith, p .counted, p .fits)) in
     let counted : 0 + number (m .trees) ≡ count = zero-add _ ∙ sym (p .counted) in
-    let same : listAt 1 (m .trees) ≡ parameterParts tree = ap parameterParts (one-derivation s (tree-of (p .begins) (t .2 .tree)) tree) in
     ap (λ (a : Method). storeAfter a (filled store s)) h
     ∙ ap (λ (x : Reading). storeFrom store 0 (within (roomOf store) x)) (m .reading)
     ∙ run
-    ∙ ap₂ (λ (l : List FieldDescriptor) (n : ℕ). allWords l ++ drop (n * partWords) store) same counted
+    ∙ ap (λ (n : ℕ). allWords (listAt 1 (m .trees)) ++ drop (n * partWords) store) counted
+
+pub accepted-store : AcceptedStore
+unfolding parameterParts
+accepted-store store s count f used h tree =
+    let t = text-read (roomOf store) s count f used h in
+    let same : listAt 1 (t .0 .begins .begins .trees) ≡ parameterParts tree = ap parameterParts (one-derivation s (tree-of (t .0 .begins) (t .2 .tree)) tree) in
+    store-kept store s h (t .0) ∙ ap (λ (l : List FieldDescriptor). allWords l ++ drop (count * partWords) store) same
+
+pub accepted-prefix-store : AcceptedPrefixStore
+unfolding parameterParts beginning-of listAt
+accepted-prefix-store store s count f used h =
+    let p = prefix-read (roomOf store) s count f used h in
+    (beginning-of (roomOf store) s count f used p, store-kept store s h p)

@@ -10,7 +10,7 @@ use Rattle.descriptors.specs.declared.FieldDescriptor.{FieldDescriptor}
 use Rattle.descriptors.specs.Texts.{void}
 use Rattle.descriptors.specs.Theorems.{BeginsField}
 use Rattle.methods.specs.declared.Method.the-variants as method
-use Rattle.methods.specs.Texts.{Reading, methodReading, partWords, words, roomOf, methodPrefix, methodText, isMethodText, textStore}
+use Rattle.methods.specs.Texts.{Reading, methodReading, partWords, words, roomOf, methodPrefix, methodText, isMethodText, prefixStore, textStore}
 use Rattle.methods.specs.Grammar.{Parameters, MethodDescriptor, FewDimensions, FewInMethod, readingAt, parameterCount, parameterParts, returnParts}
 
 -- A text has one derivation: proved as `one-derivation`
@@ -103,6 +103,17 @@ AcceptedStore =
 abbrev pub RefusedStore : Type 0
 RefusedStore =
     (store s : List ℕ) (n p : ℕ) → methodText (roomOf store) s ≡ method.Refused n p → textStore store s ≡ replicate (length store) 0
+
+-- The same after a prefix reading, with the parts of the derivable beginning: proved as `accepted-prefix-store` and
+-- `refused-prefix-store`
+abbrev pub AcceptedPrefixStore : Type 0
+AcceptedPrefixStore =
+    (store s : List ℕ) (count : ℕ) (f : FieldDescriptor) (used : ℕ) → methodPrefix (roomOf store) s ≡ method.Parsed count f used
+    → (b : DerivedBeginning s count f used) × (prefixStore store s ≡ allWords (parameterParts (b .tree)) ++ drop (count * partWords) store)
+
+abbrev pub RefusedPrefixStore : Type 0
+RefusedPrefixStore =
+    (store s : List ℕ) (n p : ℕ) → methodPrefix (roomOf store) s ≡ method.Refused n p → prefixStore store s ≡ replicate (length store) 0
 
 -- A whole reading is a prefix reading with nothing left over: proved as `whole-is-prefix`
 abbrev pub WholeIsPrefix : Type 0
