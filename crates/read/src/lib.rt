@@ -17,7 +17,7 @@ pub enum Read {
 pub const PAST_END: u32 = 3;
 
 // The number of bytes from an offset on: none where the offset lies past the end.
-fn left(code: &[u8], at: usize) -> usize
+pub fn left(code: &[u8], at: usize) -> usize
     ensures { λ r. ⌜ r ≡ length (now (code .entry)) - at ⌝ }
 {
     if at <= code.len() { code.len() - at } else { 0 }

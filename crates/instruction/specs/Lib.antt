@@ -1,0 +1,4 @@
+pub mod Steps
+pub mod Pictures
+pub mod Theorems
+pub mod Examples

@@ -1,0 +1,4 @@
+pub mod Laws
+pub mod Exactly
+pub mod Signed
+pub mod Standing

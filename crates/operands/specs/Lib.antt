@@ -1,0 +1,4 @@
+pub mod Signed
+pub mod Checks
+pub mod Pictures
+pub mod Theorems

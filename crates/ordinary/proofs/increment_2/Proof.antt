@@ -1,0 +1,28 @@
+use Rattle.ordinary.specs.Ordinary.{operandsFrom}
+use borrow.Author.Needs.{needs}
+use Rattle.ordinary.proofs.increment_2.Statement.{statement}
+use Rattle.ordinary.proofs.increment_2.Tie as tie
+
+returns : tie.Need-returns
+unfolding operandsFrom
+returns c =
+    let r = c .before .before .before .before in
+    rw (← r .before .before .read-u2 .ensures, r .local .given .1, ← c .before .before .read-u22 .ensures, ← c .before .signed-2 .ensures)
+    (c .with-second .ensures)
+
+returns-2 : tie.Need-returns-2
+unfolding operandsFrom
+returns-2 c = rw (← c .before .before .before .read-u2 .ensures, c .before .number .given .1)
+
+pub increment-2-spec : {M : Type 1} → statement M
+increment-2-spec =
+    tie.close
+    (tie.spec
+    (λ c κs. search needs)
+    (λ c. search needs)
+    (λ c κs. search needs)
+    (λ c κs. search needs)
+    (λ c κs. search needs)
+    (λ c. search needs)
+    returns
+    returns-2)

@@ -1,0 +1,4 @@
+pub mod Tags
+pub mod Entries
+pub mod Theorems
+pub mod Examples

@@ -1,0 +1,3 @@
+pub mod Laws
+pub mod Counts
+pub mod Exactly

@@ -1,0 +1,3 @@
+pub mod Switches
+pub mod Pictures
+pub mod Theorems
