@@ -2,7 +2,7 @@
 use pool::Kinds;
 ghost use mathlib.Core.Path.{_≡_};
 ghost use Rattle.opcodes.specs.Formats.{numbered, formatOf, Stands};
-ghost use Rattle.opcodes.specs.Wide.{isWideLocal, wideFormOf};
+ghost use Rattle.opcodes.specs.Wide.{wideFormOf};
 ghost use Rattle.opcodes.specs.Kinds.{kindOf};
 
 // What follows a pool index of two bytes: nothing, a count, a count and a zero byte, or two zero bytes.
@@ -398,18 +398,11 @@ pub fn format_of(formats: &[u8; 256], byte: u8) -> Format
     format_numbered(number)
 }
 
-// The instructions with a local alone that `wide` modifies.
-fn is_wide_local(byte: u32) -> bool
-    ensures { λ r. ⌜ r ≡ isWideLocal byte ⌝ }
-{
-    ((0x15 <= byte) & (byte <= 0x19)) | ((0x36 <= byte) & (byte <= 0x3a)) | (byte == 0xa9)
-}
-
 // The form that `wide` gives a byte.
 pub fn wide_form_of(byte: u32) -> WideForm
     ensures { λ r. ⌜ r ≡ wideFormOf byte ⌝ }
 {
-    if is_wide_local(byte) {
+    if ((0x15 <= byte) & (byte <= 0x19)) | ((0x36 <= byte) & (byte <= 0x3a)) | (byte == 0xa9) {
         return WideForm::Local;
     }
     if byte == 0x84 {

@@ -5,7 +5,7 @@ use read::CodeOffset;
 use read::Read;
 ghost use mathlib.Core.Path.{_≡_};
 ghost use Rattle.operands.specs.Signed.{extended};
-ghost use Rattle.operands.specs.Checks.{signedRead, indexFault, indexRead, zeroRead, isArrayTag, arrayTagRead};
+ghost use Rattle.operands.specs.Checks.{signedRead, indexFault, indexRead, zeroRead, arrayTagRead};
 
 // Document 01's refusals of an operand. An index has the pool's.
 pub const NOT_ZERO: u32 = 8;
@@ -96,19 +96,13 @@ pub fn zero_read(at: CodeOffset, found: Read) -> Read
     }
 }
 
-fn is_array_tag(tag: u32) -> bool
-    ensures { λ r. ⌜ r ≡ isArrayTag tag ⌝ }
-{
-    (4 <= tag) & (tag <= 11)
-}
-
 // The tag, at an offset, of a primitive array's elements.
 pub fn array_tag_read(at: CodeOffset, found: Read) -> Read
     ensures { λ r. ⌜ r ≡ arrayTagRead at found ⌝ }
 {
     match found {
         Read::Value(tag, next) => {
-            if is_array_tag(tag) {
+            if (4 <= tag) & (tag <= 11) {
                 return Read::Value(tag, next);
             }
             Read::Refused(NO_ARRAY_TAG, at)

@@ -56,9 +56,6 @@ module _ (code : List ℕ) where
       let all : length (bytesAt n code (at .0)) ≡ n = length-take-le n (drop (at .0) code) (rw length-drop (omega arith)) in
       (all, record { within = rw all h; there = ap (λ (k : ℕ). bytesAt k code (at .0)) all })
 
-  join : {n : ℕ} (at : CodeOffset) (first rest : List ℕ) → length first ≡ n → Stand code at first → Stand code (after n at) rest → Stand code at (first ++ rest)
-  join at first rest e f r = stand-join code at first rest f (subst (λ (k : ℕ). Stand code (after k at) rest) (sym e) r)
-
   part : {n : ℕ} (at : CodeOffset) (first rest : List ℕ) → length first ≡ n → Stand code at (first ++ rest) → Stand code at first × Stand code (after n at) rest
   part at first rest e s =
       let parts = stand-part code at first rest s in
@@ -71,6 +68,9 @@ module _ (code : List ℕ) where
     number : v ≡ bigEndian bytes
     stand : Stand code at bytes
     place : next ≡ after 4 at
+
+  after-word : {at next : CodeOffset} {v : ℕ} (w : Word at v next) {rest : List ℕ} → Stand code next rest → Stand code at (w .bytes ++ rest)
+  after-word {at} {next} w {rest} s = stand-join code at (w .bytes) rest (w .stand) (subst (λ (o : CodeOffset). Stand code o rest) (w .place ∙ ap (λ (k : ℕ). after k at) (sym (w .four))) s)
 
   word-there : (at : CodeOffset) (v : ℕ) (next : CodeOffset) → readOf 4 code at ≡ read.Value v next → Word at v next
   word-there at v next e =
@@ -115,6 +115,9 @@ module _ (code : List ℕ) where
     stand : Stand code at bytes
     place : padded at ≡ after (length bytes) at
 
+  after-padding : {at : CodeOffset} (p : Padded at) {rest : List ℕ} → Stand code (padded at) rest → Stand code at (p .bytes ++ rest)
+  after-padding {at} p {rest} s = stand-join code at (p .bytes) rest (p .stand) (subst (λ (o : CodeOffset). Stand code o rest) (p .place) s)
+
   pads-to : (at : CodeOffset) (bytes : List ℕ) → Padding at bytes → padded at ≡ after (length bytes) at
   pads-to at bytes p =
       let few : length bytes < 4 = p .few in
@@ -142,37 +145,31 @@ module _ (code : List ℕ) where
       → Decoding TablePicture at i next
   table-drawn at i next p {default} {low} {high} {count} {lowAt} {highAt} {entries} d l h w counted some few is =
       let n : ℕ = length (p .bytes) in
-      let low-at : lowAt ≡ after 4 (after n at) = d .place ∙ ap (after 4) (p .place) in
-      let high-at : highAt ≡ after 4 (after 4 (after n at)) = l .place ∙ ap (after 4) low-at in
-      let entries-at : entries ≡ after 4 (after 4 (after 4 (after n at))) = h .place ∙ ap (after 4) high-at in
-      let there : entries ≡ after (n + 12) at = entries-at ∙ at-place (omega arith) in
-      let offsets-stand : Stand code (after 4 (after 4 (after 4 (after n at)))) (w .bytes) = subst (λ (o : CodeOffset). Stand code o (w .bytes)) entries-at (w .stand) in
-      let high-stand : Stand code (after 4 (after 4 (after n at))) (h .bytes) = subst (λ (o : CodeOffset). Stand code o (h .bytes)) high-at (h .stand) in
-      let low-stand : Stand code (after 4 (after n at)) (l .bytes) = subst (λ (o : CodeOffset). Stand code o (l .bytes)) low-at (l .stand) in
-      let default-stand : Stand code (after n at) (d .bytes) = subst (λ (o : CodeOffset). Stand code o (d .bytes)) (p .place) (d .stand) in
-      let all = length-5 (p .bytes) (d .bytes) (l .bytes) (h .bytes) (w .bytes) ∙ ap₂ (λ (x y : ℕ). n + (x + y)) (d .four) (ap₂ (λ (x y : ℕ). x + y) (l .four) (ap₂ (λ (x y : ℕ). x + y) (h .four) (w .all))) in
+      let bytes = p .bytes ++ (d .bytes ++ (l .bytes ++ (h .bytes ++ w .bytes))) in
+      let there : entries ≡ after (n + 12) at = h .place ∙ ap (after 4) (l .place ∙ ap (after 4) (d .place ∙ ap (after 4) (p .place))) ∙ at-place (omega arith) in
+      let picture : TablePicture at i bytes = record {
+        padding = p .bytes;
+        default = d .bytes;
+        low = l .bytes;
+        high = h .bytes;
+        offsets = w .bytes;
+        drawn = refl;
+        pads = p .pads;
+        default-word = d .four;
+        low-word = l .four;
+        high-word = h .four;
+        count = count;
+        counted = ap₂ (λ (x y : ℕ). signedOf x -ℤ signedOf y +ℤ pos 1) (sym (h .number)) (sym (l .number)) ∙ counted;
+        some = some;
+        few = few;
+        offset-words = w .all;
+        is = is ∙ rw (d .number, l .number, h .number, there);
+      } in
       record {
-        bytes = p .bytes ++ (d .bytes ++ (l .bytes ++ (h .bytes ++ w .bytes)));
-        picture = record {
-          padding = p .bytes;
-          default = d .bytes;
-          low = l .bytes;
-          high = h .bytes;
-          offsets = w .bytes;
-          drawn = refl;
-          pads = p .pads;
-          default-word = d .four;
-          low-word = l .four;
-          high-word = h .four;
-          count = count;
-          counted = ap₂ (λ (x y : ℕ). signedOf x -ℤ signedOf y +ℤ pos 1) (sym (h .number)) (sym (l .number)) ∙ counted;
-          some = some;
-          few = few;
-          offset-words = w .all;
-          is = is ∙ rw (d .number, l .number, h .number, there);
-        };
-        stand = join at (p .bytes) _ refl (p .stand) (join (after n at) (d .bytes) _ (d .four) default-stand (join (after 4 (after n at)) (l .bytes) _ (l .four) low-stand (join (after 4 (after 4 (after n at))) (h .bytes) _ (h .four) high-stand offsets-stand)));
-        place = w .place ∙ ap (after (4 * count)) there ∙ at-place (omega (arith, all));
+        bytes = bytes;
+        picture = picture;
+        stand = after-padding p (after-word d (after-word l (after-word h (w .stand))));
+        place = w .place ∙ ap (after (4 * count)) there ∙ at-place (omega (arith, table-length picture));
       }
 
   table-to : (at : CodeOffset) (i : Instruction) (next : CodeOffset) → tableStep code at ≡ step.Decoded i next → Decoding TablePicture at i next
@@ -224,31 +221,28 @@ module _ (code : List ℕ) where
       → count ≤ most → i ≡ instruction.LookupSwitch default entries count → Decoding LookupPicture at i next
   lookup-drawn at i next p {default} {count} {countAt} {entries} d c w few is =
       let n : ℕ = length (p .bytes) in
-      let count-at : countAt ≡ after 4 (after n at) = d .place ∙ ap (after 4) (p .place) in
-      let entries-at : entries ≡ after 4 (after 4 (after n at)) = c .place ∙ ap (after 4) count-at in
-      let there : entries ≡ after (n + 8) at = entries-at ∙ at-place (omega arith) in
-      let pairs-stand : Stand code (after 4 (after 4 (after n at))) (w .bytes) = subst (λ (o : CodeOffset). Stand code o (w .bytes)) entries-at (w .stand) in
-      let count-stand : Stand code (after 4 (after n at)) (c .bytes) = subst (λ (o : CodeOffset). Stand code o (c .bytes)) count-at (c .stand) in
-      let default-stand : Stand code (after n at) (d .bytes) = subst (λ (o : CodeOffset). Stand code o (d .bytes)) (p .place) (d .stand) in
+      let bytes = p .bytes ++ (d .bytes ++ (c .bytes ++ w .bytes)) in
+      let there : entries ≡ after (n + 8) at = c .place ∙ ap (after 4) (d .place ∙ ap (after 4) (p .place)) ∙ at-place (omega arith) in
       let pairs : length (w .bytes) ≡ 8 * count = (let all : length (w .bytes) ≡ 4 * (2 * count) = w .all in omega arith) in
-      let all = length-4 (p .bytes) (d .bytes) (c .bytes) (w .bytes) ∙ ap₂ (λ (x y : ℕ). n + (x + y)) (d .four) (ap₂ (λ (x y : ℕ). x + y) (c .four) (w .all)) in
+      let picture : LookupPicture at i bytes = record {
+        padding = p .bytes;
+        default = d .bytes;
+        npairs = c .bytes;
+        pairs = w .bytes;
+        drawn = refl;
+        pads = p .pads;
+        default-word = d .four;
+        npairs-word = c .four;
+        counted = rw (sym (c .number)) few;
+        pair-words = pairs ∙ ap (λ (x : ℕ). 8 * x) (c .number);
+        is = is ∙ rw (d .number, c .number, there);
+      } in
+      let number : count ≡ bigEndian (c .bytes) = c .number in
       record {
-        bytes = p .bytes ++ (d .bytes ++ (c .bytes ++ w .bytes));
-        picture = record {
-          padding = p .bytes;
-          default = d .bytes;
-          npairs = c .bytes;
-          pairs = w .bytes;
-          drawn = refl;
-          pads = p .pads;
-          default-word = d .four;
-          npairs-word = c .four;
-          counted = rw (sym (c .number)) few;
-          pair-words = pairs ∙ ap (λ (x : ℕ). 8 * x) (c .number);
-          is = is ∙ rw (d .number, c .number, there);
-        };
-        stand = join at (p .bytes) _ refl (p .stand) (join (after n at) (d .bytes) _ (d .four) default-stand (join (after 4 (after n at)) (c .bytes) _ (c .four) count-stand pairs-stand));
-        place = w .place ∙ ap (after (4 * (2 * count))) there ∙ at-place (omega (arith, all));
+        bytes = bytes;
+        picture = picture;
+        stand = after-padding p (after-word d (after-word c (w .stand)));
+        place = w .place ∙ ap (after (4 * (2 * count))) there ∙ at-place (omega (arith, lookup-length picture));
       }
 
   lookup-to : (at : CodeOffset) (i : Instruction) (next : CodeOffset) → lookupStep code at ≡ step.Decoded i next → Decoding LookupPicture at i next
