@@ -89,7 +89,7 @@ field-derived s f used d =
 abbrev VoidRead : List ℕ → FieldDescriptor → ℕ → Type 0
 VoidRead s f used = (s ≡ ascii "V") × (f ≡ void) × (used ≡ 1)
 
-void-bytes : (text : List ℕ) → partBytes text void ≡ ascii "V"
+pub void-bytes : (text : List ℕ) → partBytes text void ≡ ascii "V"
 void-bytes text = letter-bytes text void (λ e. omega arith)
 
 return-derived : (s : List ℕ) (f : FieldDescriptor) (used : ℕ) → VoidRead s f used ⊎ DerivedField s f used → ReturnPart s f × (partBytes s f ≡ s)
@@ -234,6 +234,12 @@ tree-derived text f t short = record { short = rw (t .same) at short; tree = t .
 abbrev ReadTo : (List ℕ → Field) → List ℕ → FieldDescriptor → List ℕ → Type 0
 ReadTo reads text f bytes = (g : FieldDescriptor) × (reads bytes ≡ field.Parsed g (length bytes)) × Agree text f bytes g
 
+pub void-agrees : (text other : List ℕ) → Agree text void other void
+void-agrees text other = record { dimensions = refl; letter = refl; name = []; first = HasName.unnamed no-letter refl refl refl; second = HasName.unnamed no-letter refl refl refl }
+  where
+    no-letter : void .letter ≡ byte "L" → ⊥
+    no-letter e = omega arith
+
 module _ (text : List ℕ) (f : FieldDescriptor) (short : length (partBytes text f) ≤ textLimit) where
   field-reads : FieldPart text f → ReadTo fieldText text f (partBytes text f)
   field-reads p =
@@ -242,13 +248,7 @@ module _ (text : List ℕ) (f : FieldDescriptor) (short : length (partBytes text
       (partsAt 0 0 (t .tree), field-text-exactly _ _ _ .1 (tree-derived text f t short), t .agrees (t .bytes) 0 [] (sym (append-nil (t .bytes))))
 
   return-reads : ReturnPart text f → ReadTo returnText text f (partBytes text f)
-  return-reads (inl v) = subst (ReadTo returnText text f) (sym (ap (partBytes text) v ∙ void-bytes text)) (void, return-text-exactly _ _ _ .1 (inl (refl, refl, refl)), subst (λ (g : FieldDescriptor). Agree text g (ascii "V") void) (sym v) void-agrees)
-    where
-      no-letter : void .letter ≡ byte "L" → ⊥
-      no-letter e = omega arith
-
-      void-agrees : Agree text void (ascii "V") void
-      void-agrees = record { dimensions = refl; letter = refl; name = []; first = HasName.unnamed no-letter refl refl refl; second = HasName.unnamed no-letter refl refl refl }
+  return-reads (inl v) = subst (ReadTo returnText text f) (sym (ap (partBytes text) v ∙ void-bytes text)) (void, return-text-exactly _ _ _ .1 (inl (refl, refl, refl)), subst (λ (g : FieldDescriptor). Agree text g (ascii "V") void) (sym v) (void-agrees text (ascii "V")))
   return-reads (inr p) =
       let t = field-tree text f p in
       subst (ReadTo returnText text f) (sym (t .same))
