@@ -1,0 +1,2 @@
+pub mod Identifier
+pub mod Theorems
