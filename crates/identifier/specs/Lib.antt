@@ -1,2 +1,3 @@
 pub mod Identifier
 pub mod Theorems
+pub mod Examples
