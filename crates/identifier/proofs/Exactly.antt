@@ -1,7 +1,6 @@
 -- An identifier is written exactly for a valid name and a valid descriptor, where there is room.
-use Prim.Native.Nat.{ℕ, _≤_}
+use Prim.Native.Nat.{ℕ}
 use mathlib.Core.Bool.{Bool, true, false}
-use mathlib.Core.List.{List}
 use mathlib.Core.Path.{_≡_, refl, sym, ap, _∙_}
 use native.Mathlib.Omega.{arith}
 use borrow.Author.Tests.{leb-true, leb-false}
@@ -15,7 +14,6 @@ use Rattle.methods.specs.Texts.{methodCheck}
 use Rattle.methods.specs.Grammar.{parameterCount, returnParts}
 use Rattle.methods.proofs.Entries.{method-text-exactly, check-is-text, text-is-check}
 use Rattle.output.specs.declared.Output.the-variants as output
-use Rattle.output.specs.Output.{writing}
 use Rattle.output.proofs.Writing.{writing-fits, writing-too-short}
 use Rattle.identifier.specs.Identifier.{identifierBytes, identifying}
 use Rattle.identifier.specs.Theorems.{Identifies, IdentifiesExactly}

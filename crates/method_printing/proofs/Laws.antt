@@ -1,5 +1,5 @@
 -- The records of a store one after the other, the length of their bytes as it grows, and their writing.
-use Prim.Native.Nat.{ℕ, zero, suc, _+_, _-_, _*_, _/_, _≤_, _<_}
+use Prim.Native.Nat.{ℕ, suc, _+_, _-_, _*_, _≤_, _<_}
 use mathlib.Core.Bool.{Bool, true, false, So, _&&_, and-eq-true-iff}
 use mathlib.Core.List.{List, [], _∷_, _++_, append-assoc}
 use mathlib.Core.Logic.{_⊎_, inl, inr}
@@ -19,8 +19,7 @@ use Rattle.output.specs.declared.Output.the-variants as output
 use Rattle.output.specs.Output.{outputAfter}
 use Rattle.output.proofs.Writing.{sets-append, sets-more, refused-after, written-after}
 use Rattle.printing.specs.Printing.{partBytes, partLength, isFieldPart, isReturnPart, roomRefusal, printing}
-use Rattle.printing.proofs.Laws.{object-length, letter-length, FieldPart, ReturnPart, field-part, return-part, part-length, print-broken, Measures, print-refused, print-fits, print-written}
-use Rattle.method_printing.specs.declared.ParametersLength.{ParametersLength}
+use Rattle.printing.proofs.Laws.{object-length, letter-length, FieldPart, ReturnPart, field-part, return-part, part-length, Measures, print-refused, print-fits, print-written}
 use Rattle.method_printing.specs.declared.ParametersLength.the-variants as parameters-length
 use Rattle.method_printing.specs.Printing.{allBytes, methodBytes, firstPart, partsIn, areMethodParts, capped, lengthFrom}
 

@@ -3,29 +3,28 @@
 use Prim.Native.Nat.{ℕ, zero, suc, _+_, _-_, _*_, _≤_}
 use mathlib.Core.Bool.{So, _&&_, and-eq-true-iff}
 use mathlib.Core.List.{List, [], _∷_, _++_, append-assoc, append-nil}
-use mathlib.Core.Logic.{_↔_, _⊎_, inl, inr, ⊎-elim}
+use mathlib.Core.Logic.{_↔_, inl, inr}
 use mathlib.Core.Path.{_≡_, refl, sym, ap, ap₂, _∙_, subst}
-use native.Mathlib.Nat.{add-zero, zero-add}
+use native.Mathlib.Nat.{zero-add}
 use native.Mathlib.Omega.{arith}
 use borrow.Author.Tests.{leb-true, le-leb}
 use lib.Dec.{leb}
-use lib.ListN.{length, take, drop, length-append}
+use lib.ListN.{length, drop, length-append}
 use lib.Seq.{drop-at, drop-drop}
 use Rattle.laws.specs.Bytes.{byte, ascii, every, textLimit}
 use Rattle.descriptors.specs.declared.FieldDescriptor.{FieldDescriptor}
-use Rattle.descriptors.specs.Texts.{maxDimensions, void}
-use Rattle.descriptors.specs.Grammar.{FieldType, ReturnDescriptor, dimensions, partsAt}
+use Rattle.descriptors.specs.Texts.{void}
+use Rattle.descriptors.specs.Grammar.{ReturnDescriptor, partsAt}
 use Rattle.methods.specs.declared.Method.the-variants as method
-use Rattle.methods.specs.Texts.{partWords, words, roomOf, methodText, textStore}
+use Rattle.methods.specs.Texts.{partWords, roomOf, methodText, textStore}
 use Rattle.methods.specs.Grammar.{Parameters, MethodDescriptor, FewDimensions, FewInReturn, FewInMethod, number, listAt, returnAt, parameterCount, parameterParts, returnParts}
-use Rattle.methods.specs.Theorems.{DerivedMethod, allWords}
+use Rattle.methods.specs.Theorems.{allWords}
 use Rattle.methods.proofs.Entries.{method-text-exactly, accepted-store}
-use Rattle.output.specs.declared.Output.the-variants as output
 use Rattle.printing.specs.Printing.{partBytes, isFieldPart, isReturnPart, printing}
-use Rattle.printing.specs.Theorems.{HasName, Agree}
-use Rattle.printing.proofs.Laws.{FieldPart, ReturnPart, field-part, return-part}
-use Rattle.printing.proofs.Roundtrip.{derived-keeps, void-bytes, prints, FieldTree, field-tree, printed, void-agrees, agree-bytes, agree-field, agree-return}
-use Rattle.method_printing.specs.Printing.{allBytes, methodBytes, firstPart, partsIn, areMethodParts}
+use Rattle.printing.specs.Theorems.{Agree}
+use Rattle.printing.proofs.Laws.{ReturnPart, field-part, return-part}
+use Rattle.printing.proofs.Roundtrip.{derived-keeps, void-bytes, prints, field-tree, printed, void-agrees, agree-bytes, agree-field, agree-return}
+use Rattle.method_printing.specs.Printing.{allBytes, methodBytes, partsIn, areMethodParts}
 use Rattle.method_printing.specs.Theorems.{AllAgree, MethodPrintsBack, ReadsAlike, MethodReadsBack, MethodKeptExactly}
 
 -- What follows, in a text from a place on.

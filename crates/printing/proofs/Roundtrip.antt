@@ -10,7 +10,7 @@ use native.Mathlib.Numerals.{add-one}
 use native.Mathlib.Omega.{arith}
 use borrow.Author.Tests.{leb-true, leb-false}
 use lib.Dec.{leb}
-use lib.ListN.{length, take, drop, replicate, length-append, length-drop, length-replicate}
+use lib.ListN.{length, take, drop, replicate, length-append, length-drop}
 use lib.Seq.{take-at, drop-drop}
 use Rattle.laws.specs.Bytes.{byte, ascii, textLimit}
 use Rattle.class_names.specs.Rules.{ClassName}
@@ -26,7 +26,7 @@ use Rattle.output.specs.declared.Output.the-variants as output
 use Rattle.output.specs.Output.{writing, outputAfter}
 use Rattle.output.proofs.Writing.{writing-fits, writing-too-short}
 use Rattle.printing.specs.Printing.{nameOf, typeBytes, partBytes, isFieldPart, isReturnPart, printing}
-use Rattle.printing.specs.Theorems.{HasName, Agree, FieldPrintsBack, ReturnPrintsBack, FieldReadsBack, ReturnReadsBack, FieldKeptExactly, ReturnKeptExactly, Refused34Exactly}
+use Rattle.printing.specs.Theorems.{HasName, Agree, PrintsBack, ReadsBack, KeptExactly, FieldPrintsBack, ReturnPrintsBack, FieldReadsBack, ReturnReadsBack, FieldKeptExactly, ReturnKeptExactly, Refused34Exactly}
 use Rattle.printing.proofs.Laws.{object-bytes, letter-bytes, FieldPart, ReturnPart, field-part, return-part, print-over, print-broken, print-long, print-within}
 
 -- What stands in a text from a place on.
@@ -81,24 +81,29 @@ derived-keeps text d at (FieldType.array-type {a} {s} q t) post e few =
     let more = derived-keeps text (d + 1) (at + 1) t post (drop-more text at a (s ++ post) e) (omega arith) in
     (more .0, more .1 ∙ replicate-more d (byte "[") s ∙ ap (λ (b : ℕ). replicate d (byte "[") ++ (b ∷ s)) (sym q))
 
-field-derived : (s : List ℕ) (f : FieldDescriptor) (used : ℕ) → DerivedField s f used → FieldPart s f × (partBytes s f ≡ s)
-field-derived s f used d =
-    subst (λ (g : FieldDescriptor). FieldPart s g × (partBytes s g ≡ s)) (sym (d .parts))
-    (derived-keeps s 0 0 (d .tree) [] (sym (append-nil s)) (omega (arith, d .few)))
+-- what was read keeps the rules, and prints its own text
+record WasRead (Part : List ℕ → FieldDescriptor → Type 0) (s : List ℕ) (f : FieldDescriptor) : Type 0 where
+  part : Part s f
+  same : partBytes s f ≡ s
+  short : length s ≤ textLimit
 
-abbrev VoidRead : List ℕ → FieldDescriptor → ℕ → Type 0
-VoidRead s f used = (s ≡ ascii "V") × (f ≡ void) × (used ≡ 1)
+derived-read : (s : List ℕ) (f : FieldDescriptor) (used : ℕ) → DerivedField s f used → WasRead FieldPart s f
+derived-read s f used d =
+    let k = derived-keeps s 0 0 (d .tree) [] (sym (append-nil s)) (omega (arith, d .few)) in
+    subst (WasRead FieldPart s) (sym (d .parts)) (record { part = k .0; same = k .1; short = d .short })
+
+field-was-read : (s : List ℕ) (f : FieldDescriptor) (used : ℕ) → fieldText s ≡ field.Parsed f used → WasRead FieldPart s f
+field-was-read s f used h = derived-read s f used (field-text-exactly s f used .0 h)
 
 pub void-bytes : (text : List ℕ) → partBytes text void ≡ ascii "V"
 void-bytes text = letter-bytes text void (λ e. omega arith)
 
-return-derived : (s : List ℕ) (f : FieldDescriptor) (used : ℕ) → VoidRead s f used ⊎ DerivedField s f used → ReturnPart s f × (partBytes s f ≡ s)
-return-derived s f used (inl v) = (inl (v .1), ap (partBytes s) (v .1) ∙ void-bytes s ∙ sym (v .0))
-return-derived s f used (inr d) = let k = field-derived s f used d in (inr (k .0), k .1)
-
-return-short : (s : List ℕ) (f : FieldDescriptor) (used : ℕ) → VoidRead s f used ⊎ DerivedField s f used → length s ≤ textLimit
-return-short s f used (inl v) = rw (v .0) (omega arith)
-return-short s f used (inr d) = d .short
+return-was-read : (s : List ℕ) (f : FieldDescriptor) (used : ℕ) → returnText s ≡ field.Parsed f used → WasRead ReturnPart s f
+return-was-read s f used h =
+    ⊎-elim
+    (λ v. record { part = inl (v .1); same = ap (partBytes s) (v .1) ∙ void-bytes s ∙ sym (v .0); short = rw (v .0) (omega arith) })
+    (λ d. let k = derived-read s f used d in record { part = inr (k .part); same = k .same; short = k .short })
+    (return-text-exactly s f used .0 h)
 
 -- What keeps the rules is printed, where there is room.
 pub prints : (s : List ℕ) (kept : Bool) (bytes out : List ℕ) → So kept → bytes ≡ s → length s ≤ textLimit → length s ≤ length out
@@ -108,18 +113,6 @@ prints s kept bytes out k same short room =
     let answer : printing s kept bytes (length out) ≡ output.Written (length s) =
     print-within s kept bytes (length out) short k (rw same short) ∙ ap (λ (b : List ℕ). writing b (length out)) same ∙ writing-fits s (length out) room in
     (answer, ap₂ (λ (a : Output) (b : List ℕ). outputAfter a b out) answer same)
-
-pub field-prints-back : FieldPrintsBack
-field-prints-back s out f used h room =
-    let d = field-text-exactly s f used .0 h in
-    let k = field-derived s f used d in
-    prints s (isFieldPart s f) (partBytes s f) out (field-part s f .1 (k .0)) (k .1) (d .short) room
-
-pub return-prints-back : ReturnPrintsBack
-return-prints-back s out f used h room =
-    let d = return-text-exactly s f used .0 h in
-    let k = return-derived s f used d in
-    prints s (isReturnPart s f) (partBytes s f) out (return-part s f .1 (k .0)) (k .1) (return-short s f used d) room
 
 -- (b) Parts that keep the rules have a derivation of their bytes, whose parts agree with them wherever the bytes stand.
 arrays : (n : ℕ) {s : List ℕ} → FieldType s → FieldType (replicate n (byte "[") ++ s)
@@ -254,19 +247,6 @@ module _ (text : List ℕ) (f : FieldDescriptor) (short : length (partBytes text
       subst (ReadTo returnText text f) (sym (t .same))
       (partsAt 0 0 (t .tree), return-text-exactly _ _ _ .1 (inr (tree-derived text f t short)), t .agrees (t .bytes) 0 [] (sym (append-nil (t .bytes))))
 
-reads-front : (reads : List ℕ → Field) (text : List ℕ) (f : FieldDescriptor) {bytes s : List ℕ} {n : ℕ} → s ≡ bytes → n ≡ length bytes → ReadTo reads text f bytes → (g : FieldDescriptor) × (reads s ≡ field.Parsed g n) × Agree text f s g
-reads-front reads text f same all h = (h .0, ap reads same ∙ h .1 ∙ ap (field.Parsed (h .0)) (sym all), rw same (h .2))
-
-pub field-reads-back : FieldReadsBack
-field-reads-back text out f n h =
-    let p = printed text (isFieldPart text f) (partBytes text f) out n h in
-    reads-front fieldText text f (p .front) (p .all) (field-reads text f (p .short) (field-part text f .0 (p .keeps)))
-
-pub return-reads-back : ReturnReadsBack
-return-reads-back text out f n h =
-    let p = printed text (isReturnPart text f) (partBytes text f) out n h in
-    reads-front returnText text f (p .front) (p .all) (return-reads text f (p .short) (return-part text f .0 (p .keeps)))
-
 -- Parts that agree have the same bytes, and keep the rules together.
 module _ (text : List ℕ) (f : FieldDescriptor) (other : List ℕ) (g : FieldDescriptor) (a : Agree text f other g) where
   same-type : HasName text f (a .name) → HasName other g (a .name) → typeBytes text f ≡ typeBytes other g
@@ -308,27 +288,59 @@ module _ (text : List ℕ) (f : FieldDescriptor) (other : List ℕ) (g : FieldDe
   agree-return (inl v) = inl (agree-void v)
   agree-return (inr p) = inr (agree-field p)
 
+-- The theorems, for any rule and any reading where what was read keeps the rule, what keeps it is read, and parts that
+-- agree keep it together.
+module _
+    (kept : List ℕ → FieldDescriptor → Bool) (reads : List ℕ → Field) (Part : List ℕ → FieldDescriptor → Type 0)
+    (rule : (text : List ℕ) (f : FieldDescriptor) → So (kept text f) ↔ Part text f)
+    (was-read : (s : List ℕ) (f : FieldDescriptor) (used : ℕ) → reads s ≡ field.Parsed f used → WasRead Part s f)
+    (is-read : (text : List ℕ) (f : FieldDescriptor) → length (partBytes text f) ≤ textLimit → Part text f → ReadTo reads text f (partBytes text f))
+    (agree : (text : List ℕ) (f : FieldDescriptor) (s : List ℕ) (g : FieldDescriptor) → Agree text f s g → Part s g → Part text f)
+  where
+    abbrev answers : List ℕ → FieldDescriptor → ℕ → Output
+    answers text f room = printing text (kept text f) (partBytes text f) room
+
+    abbrev outputs : List ℕ → FieldDescriptor → List ℕ → List ℕ
+    outputs text f out = outputAfter (answers text f (length out)) (partBytes text f) out
+
+    prints-back : PrintsBack reads answers outputs
+    prints-back s out f used h room =
+        let w = was-read s f used h in
+        prints s (kept s f) (partBytes s f) out (rule s f .1 (w .part)) (w .same) (w .short) room
+
+    reads-back : ReadsBack reads answers outputs
+    reads-back text out f n h =
+        let p = printed text (kept text f) (partBytes text f) out n h in
+        let r = is-read text f (p .short) (rule text f .0 (p .keeps)) in
+        (r .0, ap reads (p .front) ∙ r .1 ∙ ap (field.Parsed (r .0)) (sym (p .all)), rw (p .front) (r .2))
+
+    kept-exactly : KeptExactly kept reads
+    kept-exactly text f = (
+      λ h.
+          let r = is-read text f (h .1) (rule text f .0 (h .0)) in
+          (partBytes text f, r .0, length (partBytes text f), r .1, r .2),
+      λ h.
+          let w = was-read (h .0) (h .1) (h .2) (h .3) in
+          (rule text f .1 (agree text f (h .0) (h .1) (h .4) (w .part)), rw (agree-bytes text f (h .0) (h .1) (h .4) ∙ w .same) (w .short)),
+    )
+
+pub field-prints-back : FieldPrintsBack
+field-prints-back = prints-back isFieldPart fieldText FieldPart field-part field-was-read field-reads agree-field
+
+pub return-prints-back : ReturnPrintsBack
+return-prints-back = prints-back isReturnPart returnText ReturnPart return-part return-was-read return-reads agree-return
+
+pub field-reads-back : FieldReadsBack
+field-reads-back = reads-back isFieldPart fieldText FieldPart field-part field-was-read field-reads agree-field
+
+pub return-reads-back : ReturnReadsBack
+return-reads-back = reads-back isReturnPart returnText ReturnPart return-part return-was-read return-reads agree-return
+
 pub field-kept-exactly : FieldKeptExactly
-field-kept-exactly text f = (
-  λ h.
-      let r = field-reads text f (h .1) (field-part text f .0 (h .0)) in
-      (partBytes text f, r .0, length (partBytes text f), r .1, r .2),
-  λ h.
-      let d = field-text-exactly (h .0) (h .1) (h .2) .0 (h .3) in
-      let k = field-derived (h .0) (h .1) (h .2) d in
-      (field-part text f .1 (agree-field text f (h .0) (h .1) (h .4) (k .0)), rw (agree-bytes text f (h .0) (h .1) (h .4) ∙ k .1) (d .short)),
-)
+field-kept-exactly = kept-exactly isFieldPart fieldText FieldPart field-part field-was-read field-reads agree-field
 
 pub return-kept-exactly : ReturnKeptExactly
-return-kept-exactly text f = (
-  λ h.
-      let r = return-reads text f (h .1) (return-part text f .0 (h .0)) in
-      (partBytes text f, r .0, length (partBytes text f), r .1, r .2),
-  λ h.
-      let d = return-text-exactly (h .0) (h .1) (h .2) .0 (h .3) in
-      let k = return-derived (h .0) (h .1) (h .2) d in
-      (return-part text f .1 (agree-return text f (h .0) (h .1) (h .4) (k .0)), rw (agree-bytes text f (h .0) (h .1) (h .4) ∙ k .1) (return-short (h .0) (h .1) (h .2) d)),
-)
+return-kept-exactly = kept-exactly isReturnPart returnText ReturnPart return-part return-was-read return-reads agree-return
 
 -- 34.
 other-refusal {ℓ} : {A : Type ℓ} {m n : ℕ} → output.Refused m 0 ≡ output.Refused n 0 → (m ≡ n → ⊥) → A

@@ -30,7 +30,7 @@ pub record Agree (text : List ℕ) (f : FieldDescriptor) (other : List ℕ) (g :
   pub second : HasName other g name
 
 -- (a) Given room, a whole descriptor that is accepted prints back to its own bytes, and the output's bytes past them stay
-abbrev PrintsBack : (List ℕ → Field) → (List ℕ → FieldDescriptor → ℕ → Output) → (List ℕ → FieldDescriptor → List ℕ → List ℕ) → Type 0
+abbrev pub PrintsBack : (List ℕ → Field) → (List ℕ → FieldDescriptor → ℕ → Output) → (List ℕ → FieldDescriptor → List ℕ → List ℕ) → Type 0
 PrintsBack reads prints outputs =
     (s out : List ℕ) (f : FieldDescriptor) (used : ℕ) → reads s ≡ field.Parsed f used → length s ≤ length out
     → (prints s f (length out) ≡ output.Written (length s)) × (outputs s f out ≡ s ++ drop (length s) out)
@@ -43,7 +43,7 @@ abbrev pub ReturnPrintsBack : Type 0
 ReturnPrintsBack = PrintsBack returnText printReturn returnOutput
 
 -- (b) What is printed reads back, whole, to parts that agree
-abbrev ReadsBack : (List ℕ → Field) → (List ℕ → FieldDescriptor → ℕ → Output) → (List ℕ → FieldDescriptor → List ℕ → List ℕ) → Type 0
+abbrev pub ReadsBack : (List ℕ → Field) → (List ℕ → FieldDescriptor → ℕ → Output) → (List ℕ → FieldDescriptor → List ℕ → List ℕ) → Type 0
 ReadsBack reads prints outputs =
     (text out : List ℕ) (f : FieldDescriptor) (n : ℕ) → prints text f (length out) ≡ output.Written n
     → (g : FieldDescriptor) × (reads (take n (outputs text f out)) ≡ field.Parsed g n) × Agree text f (take n (outputs text f out)) g
@@ -57,7 +57,7 @@ ReturnReadsBack = ReadsBack returnText printReturn returnOutput
 
 -- Parts keep the rules, and what they print is within the limit, exactly when some text reads to parts that agree with
 -- these
-abbrev KeptExactly : (List ℕ → FieldDescriptor → Bool) → (List ℕ → Field) → Type 0
+abbrev pub KeptExactly : (List ℕ → FieldDescriptor → Bool) → (List ℕ → Field) → Type 0
 KeptExactly kept reads =
     (text : List ℕ) (f : FieldDescriptor)
     → (So (kept text f) × (length (partBytes text f) ≤ textLimit))

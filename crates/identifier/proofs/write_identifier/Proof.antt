@@ -1,3 +1,4 @@
+use native.Mathlib.Omega.{arith}
 use borrow.Author.Needs.{needs}
 use Rattle.identifier.proofs.Laws.{identifier-too-short, identifier-written}
 use Rattle.identifier.proofs.write_identifier.Statement.{statement}
@@ -6,7 +7,7 @@ use Rattle.identifier.proofs.write_identifier.Tie as tie
 returns : tie.Need-returns
 returns c =
     let a = c .before .before .before .before .args in
-    identifier-too-short (a .name .now) (a .descriptor .now) (a .out .now) (c .if1 .taken)
+    identifier-too-short (a .name .now) (a .descriptor .now) (a .out .now) (omega (arith, c .if1 .taken))
 
 returns-2 : tie.Need-returns-2
 returns-2 c =

@@ -1,6 +1,5 @@
 use mathlib.Core.Path.{_∙_}
 use native.Mathlib.Omega.{arith}
-use borrow.Author.Needs.{needs}
 use lib.ListN.{length-set}
 use Rattle.method_printing.specs.Printing.{partsIn}
 use Rattle.method_printing.proofs.Laws.{method-length, method-written}

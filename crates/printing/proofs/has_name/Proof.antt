@@ -1,4 +1,5 @@
 use mathlib.Core.Path.{_∙_}
+use native.Mathlib.Omega.{arith}
 use borrow.Author.Needs.{needs}
 use Rattle.printing.proofs.Laws.{name-outside, name-inside}
 use Rattle.printing.proofs.has_name.Statement.{statement}
@@ -7,7 +8,7 @@ use Rattle.printing.proofs.has_name.Tie as tie
 returns : tie.Need-returns
 returns c =
     let a = c .before .before .before .before .args in
-    name-outside (a .text .now) (a .part) (c .if1 .taken)
+    name-outside (a .text .now) (a .part) (omega (arith, c .if1 .taken))
 
 returns-2 : tie.Need-returns-2
 returns-2 c =
