@@ -14,6 +14,7 @@ use Rattle.printing.specs.Printing.{partBytes, partLength, isFieldPart, isRetur
 use Rattle.method_printing.specs.declared.ParametersLength.{ParametersLength}
 use Rattle.method_printing.specs.declared.ParametersLength.the-variants as parameters-length
 
+-- the bytes of parts, one part after the other
 unfoldable pub allBytes : List ℕ → List FieldDescriptor → List ℕ
 allBytes text [] = []
 allBytes text (f ∷ fs) = partBytes text f ++ allBytes text fs

@@ -1,5 +1,6 @@
-// Field and return descriptors printed from their parts, as the `Display` parts of cafebabe's descriptors.rs, into a lent output. An
-// output is written only once its room is known, so a refusal changes nothing.
+// Field and return descriptors printed from their parts, as the `Display` parts of cafebabe's descriptors.rs, into a lent
+// output. An output is written only once its room is known, so a refusal changes nothing. A text is seen to be within
+// the limit before any part is looked at, so that no name is longer than that.
 use class_names::OVER_THE_LIMIT;
 use descriptors::FieldDescriptor;
 use laws::TEXT_LIMIT;
@@ -58,6 +59,7 @@ fn is_type_part(text: &[u8], part: FieldDescriptor) -> bool
     is_base_letter(part.letter) & has_no_name(part)
 }
 
+// Whether a part keeps the rules of a field, and below of a return. For printers of methods too.
 pub fn is_field_part(text: &[u8], part: FieldDescriptor) -> bool
     ensures { λ r. ⌜ r ≡ isFieldPart (now (text .entry)) part ⌝ }
 {
@@ -82,6 +84,7 @@ pub fn is_return_part(text: &[u8], part: FieldDescriptor) -> bool
     is_field_part(text, part)
 }
 
+// How many bytes a part is printed to. Two u32 are added as usize here too.
 pub fn part_length(part: FieldDescriptor) -> usize
     ensures { λ r. ⌜ r ≡ partLength part ⌝ }
 {
