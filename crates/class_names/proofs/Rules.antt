@@ -1,13 +1,14 @@
 -- The readings of class names and their rule agree.
 use Prim.Native.Nat.{ℕ, suc, _+_, _-_, _≤_, _<_}
-use mathlib.Core.Bool.{Bool, true, false, So, false≢true}
+use mathlib.Core.Bool.{Bool, true, false, So, false≢true, not, and-eq-true-iff}
 use mathlib.Core.List.{List, [], _∷_, _++_, append-assoc, append-nil, List·Memᴰ·head, List·Memᴰ·tail, List·Memᴰ·cases-cons, List·Memᴰ·append-cases, List·Memᴰ·eq-of-singleton, Memᴰ·cast, Memᴰ·append-left, Memᴰ·append-right}
 use mathlib.Core.Logic.{_↔_, _⊎_, inl, inr, ⊎-elim}
 use mathlib.Core.Path.{_≡_, refl, sym, ap, _∙_, subst}
 use native.Mathlib.Omega.{arith}
-use borrow.Author.Tests.{leb-true, leb-false, eqb-true, eqb-false, not-true}
-use lib.Dec.{leb, eqb}
-use lib.ListN.{length, drop, length-append, length-drop}
+use borrow.Author.Tests.{leb-true, leb-false, eqb-true, eqb-false, eq-eqb, ne-eqb, ltb-true, lt-ltb, not-true}
+use lib.Dec.{leb, ltb, eqb}
+use lib.ListN.{length, getD, drop, length-append, length-drop}
+use lib.Seq.{getD-append-add}
 use Rattle.laws.specs.Bytes.{byte, ascii, In, textLimit}
 use Rattle.laws.proofs.Bools.{so-not}
 use Rattle.laws.proofs.Bytes.{one-of}
@@ -16,9 +17,9 @@ use Rattle.names.proofs.Joined.{joined-prop}
 use Rattle.class_names.specs.declared.Checked.the-variants as checked
 use Rattle.class_names.specs.declared.NameEnd.{NameEnd}
 use Rattle.class_names.specs.declared.NameEnd.the-variants as name-end
-use Rattle.class_names.specs.Names.{isSeparator, isBarred, nameFrom, aloneOf, className}
+use Rattle.class_names.specs.Names.{isSeparator, isBarred, nameFrom, aloneOf, className, endsInSegment, isNamedBy}
 use Rattle.class_names.specs.Rules.{barredBytes, Segment, ClassName, LoneClassName}
-use Rattle.class_names.specs.Theorems.{Begins, EndsExactly, AloneExactly, OneClassName}
+use Rattle.class_names.specs.Theorems.{Begins, EndsExactly, AloneExactly, ClassNameExactly, OneClassName}
 use Rattle.class_names.proofs.Laws.{empty-segment, semicolon, next-segment, barred-byte, name-byte, alone, alone-over}
 
 -- a byte of a segment is neither a separator nor barred
@@ -192,3 +193,57 @@ alone-exactly s = (λ h. to h (leb (length s) textLimit) refl, λ h. let run = a
         let short = leb-true (length s) textLimit e in
         (short, alone-ended s (nameFrom false 0 s) (alone s _ short refl ∙ h) (reached false 0 s))
     to h false e = absurd (clash (alone-over s (leb-false _ _ e) ∙ h))
+
+-- The last byte of a class name is one of its last segment, so it is no / .
+abbrev lastByte : List ℕ → ℕ
+lastByte s = getD s (length s - 1) 0
+
+last-append : (w t : List ℕ) → 0 < length t → lastByte (w ++ t) ≡ lastByte t
+last-append w t h =
+    let place : length (w ++ t) - 1 ≡ length w + (length t - 1) = rw (length-append w t) (omega arith) in
+    ap (λ (i : ℕ). getD (w ++ t) i 0) place ∙ getD-append-add w t (length t - 1) 0
+
+last-in : (s : List ℕ) → 0 < length s → In (lastByte s) s
+last-in [] h = absurd (omega arith)
+last-in (b ∷ []) h = List·Memᴰ·head refl
+last-in (b ∷ c ∷ s) h = List·Memᴰ·tail (Memᴰ·cast (last-append (b ∷ []) (c ∷ s) (omega arith)) (last-in (c ∷ s) (omega arith)))
+
+class-some : {s : List ℕ} → ClassName s → 0 < length s
+class-some (Joined.last seg) = seg .some
+class-some (Joined.more {w = w} {t} seg c e) = rw (e, length-append w (byte "/" ∷ t)) (omega arith)
+
+class-last : {s : List ℕ} → ClassName s → lastByte s ≡ byte "/" → ⊥
+class-last {s} (Joined.last seg) h = seg .none (lastByte s) (last-in s (seg .some)) (List·Memᴰ·head h)
+class-last (Joined.more {w = w} {t} seg c e) h =
+    class-last c (sym (last-append (byte "/" ∷ []) t (class-some c)) ∙ sym (last-append w (byte "/" ∷ t) (omega arith)) ∙ sym (ap lastByte e) ∙ h)
+
+ends-in-segment : {s : List ℕ} → ClassName s → So (endsInSegment s)
+ends-in-segment {s} c =
+    and-eq-true-iff (ltb 0 (length s)) (not (eqb (lastByte s) (byte "/"))) .1
+    (lt-ltb _ _ (class-some c), ap not (ne-eqb (lastByte s) (byte "/") (class-last c)))
+
+lone-ended : {s : List ℕ} → LoneClassName s → So (endsInSegment s) → ClassName s
+lone-ended {s} l h = go l
+  where
+    both : So (ltb 0 (length s)) × So (not (eqb (lastByte s) (byte "/")))
+    both = and-eq-true-iff (ltb 0 (length s)) (not (eqb (lastByte s) (byte "/"))) .0 h
+
+    go : LoneClassName s → ClassName s
+    go (LoneClassName.closed c) = c
+    go (LoneClassName.empty e) = absurd (omega (arith, ltb-true 0 (length s) (both .0), ap length e))
+    go (LoneClassName.trailing {t} c e) =
+        let slash-last : lastByte s ≡ byte "/" = ap lastByte e ∙ last-append t (byte "/" ∷ []) (omega arith) in
+        absurd (false≢true (sym (not-true _ (both .1)) ∙ eq-eqb (lastByte s) (byte "/") slash-last))
+
+named-ended : (s : List ℕ) (r : NameEnd) → So (isNamedBy s r) → Reached false 0 s r → ClassName s
+unfolding isNamedBy Reached Left
+named-ended s (name-end.Semicolon e) h c = absurd (false≢true h)
+named-ended s (name-end.TextEnd e) h c = lone-ended c h
+named-ended s (name-end.Refused n p) h c = absurd (false≢true h)
+
+pub class-name-exactly : ClassNameExactly
+unfolding isNamedBy
+class-name-exactly s = (
+  λ h. named-ended s (nameFrom false 0 s) h (reached false 0 s),
+  λ c. ap (isNamedBy s) (alone-run (LoneClassName.closed c) .1) ∙ ends-in-segment c,
+)

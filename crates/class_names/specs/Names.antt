@@ -1,10 +1,11 @@
 -- Class names as document 01 reads them, with the numbers and places of their refusals. `at` is the place in the whole
 -- text of the first byte of what is left. specs/Rules.antt has the rule itself, and specs/Theorems.antt says that the
 -- two agree.
-use Prim.Native.Nat.{ℕ, _+_}
-use mathlib.Core.Bool.{Bool, true, false}
+use Prim.Native.Nat.{ℕ, _+_, _-_}
+use mathlib.Core.Bool.{Bool, true, false, not, _&&_}
 use mathlib.Core.List.{List, [], _∷_}
-use lib.Dec.{eqb}
+use lib.Dec.{eqb, ltb}
+use lib.ListN.{length, getD}
 use Rattle.laws.specs.Bytes.{byte, ascii, oneOf, withinLimit}
 use Rattle.class_names.specs.declared.Checked.{Checked}
 use Rattle.class_names.specs.declared.Checked.the-variants as checked
@@ -40,3 +41,16 @@ aloneOf (name-end.Refused n p) = checked.Refused n p
 -- 21: the text is over the limit
 unfoldable pub className : List ℕ → Checked
 className s = elim (withinLimit s) [ true ↦ aloneOf (nameFrom false 0 s) | false ↦ checked.Refused 21 0 ]
+
+-- A class name without the ; that ends it in a descriptor: its reading comes to the text's end, and the last segment has
+-- a byte
+abbrev pub endsInSegment : List ℕ → Bool
+endsInSegment s = ltb 0 (length s) && not (eqb (getD s (length s - 1) 0) (byte "/"))
+
+unfoldable pub isNamedBy : List ℕ → NameEnd → Bool
+isNamedBy s (name-end.Semicolon e) = false
+isNamedBy s (name-end.TextEnd e) = endsInSegment s
+isNamedBy s (name-end.Refused n p) = false
+
+abbrev pub isClassName : List ℕ → Bool
+isClassName s = isNamedBy s (nameFrom false 0 s)

@@ -4,7 +4,7 @@ use laws::TEXT_LIMIT;
 ghost use mathlib.Core.Bool.{false};
 ghost use mathlib.Core.Path.{_≡_};
 ghost use lib.ListN.{drop};
-ghost use Rattle.class_names.specs.Names.{isSeparator, isBarred, nameFrom, className};
+ghost use Rattle.class_names.specs.Names.{isSeparator, isBarred, nameFrom, className, isClassName};
 
 // Document 01's refusals that a class name can get.
 pub const OVER_THE_LIMIT: u32 = 21;
@@ -80,5 +80,16 @@ pub fn class_name(text: &[u8]) -> Checked
         NameEnd::Semicolon(place) => Checked::Refused(LONE_SEMICOLON, place),
         NameEnd::TextEnd(_) => Checked::Accepted,
         NameEnd::Refused(number, place) => Checked::Refused(number, place),
+    }
+}
+
+// A class name without the `;` that ends it in a descriptor.
+pub fn is_class_name(name: &[u8]) -> bool
+    ensures { λ r. ⌜ r ≡ isClassName (now (name .entry)) ⌝ }
+{
+    match name_end(name, 0) {
+        NameEnd::Semicolon(_) => false,
+        NameEnd::TextEnd(_) => 0 < name.len() && name[name.len() - 1] != b'/',
+        NameEnd::Refused(_, _) => false,
     }
 }

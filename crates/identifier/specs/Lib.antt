@@ -1,0 +1,3 @@
+pub mod Identifier
+pub mod Theorems
+pub mod Examples
