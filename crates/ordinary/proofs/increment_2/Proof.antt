@@ -1,18 +1,16 @@
-use Rattle.ordinary.specs.Ordinary.{operandsFrom}
+use mathlib.Core.Path.{sym, _∙_}
+use Rattle.ordinary.proofs.Laws.{incremented, not-incremented}
 use borrow.Author.Needs.{needs}
 use Rattle.ordinary.proofs.increment_2.Statement.{statement}
 use Rattle.ordinary.proofs.increment_2.Tie as tie
 
 returns : tie.Need-returns
-unfolding operandsFrom
 returns c =
     let r = c .before .before .before .before in
-    rw (← r .before .before .read-u2 .ensures, r .local .given .1, ← c .before .before .read-u22 .ensures, ← c .before .signed-2 .ensures)
-    (c .with-second .ensures)
+    incremented 2 _ _ _ (sym (r .local .given .1) ∙ r .before .before .read-u2 .ensures) (c .before .before .read-u22 .ensures) (c .before .signed-2 .ensures) (c .with-second .ensures)
 
 returns-2 : tie.Need-returns-2
-unfolding operandsFrom
-returns-2 c = rw (← c .before .before .before .read-u2 .ensures, c .before .number .given .1)
+returns-2 c = not-incremented 2 _ _ _ (sym (c .before .number .given .1) ∙ c .before .before .before .read-u2 .ensures)
 
 pub increment-2-spec : {M : Type 1} → statement M
 increment-2-spec =
