@@ -1,6 +1,6 @@
 -- Reading and printing a method's parts undo each other: the parts of a derivation print its text, and parts that keep
 -- the rules have a derivation of the bytes that they print.
-use Prim.Native.Nat.{ℕ, zero, suc, _+_, _-_, _*_, _≤_}
+use Prim.Native.Nat.{ℕ, zero, suc, _+_, _*_, _≤_}
 use mathlib.Core.Bool.{So, _&&_, and-eq-true-iff}
 use mathlib.Core.List.{List, [], _∷_, _++_, append-assoc, append-nil}
 use mathlib.Core.Logic.{_↔_, inl, inr}
