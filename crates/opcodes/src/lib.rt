@@ -1,7 +1,7 @@
 // Which operands follow each opcode, as data, and which instructions share a kind.
 use pool::Kinds;
 ghost use mathlib.Core.Path.{_≡_};
-ghost use Rattle.opcodes.specs.Formats.{numbered, formatOf, Stands};
+ghost use Rattle.opcodes.specs.Formats.{numbers, numbered, formatOf, Stands};
 ghost use Rattle.opcodes.specs.Wide.{wideFormOf};
 ghost use Rattle.opcodes.specs.Kinds.{kindOf};
 
@@ -352,7 +352,8 @@ const FORMATS: [u8; 256] = [
 
 // The table, to be made once and lent to `format_of`.
 pub fn formats() -> [u8; 256]
-    ensures { λ r. ⌜ Stands r ⌝ }
+    ensures is { λ r. ⌜ r ≡ numbers ⌝ }
+    ensures stands { λ r. ⌜ Stands r ⌝ }
 {
     FORMATS
 }
