@@ -2,6 +2,7 @@
 use opcodes::Format;
 use ordinary::Instruction;
 use ordinary::Step;
+use ordinary::with_first;
 use read::CodeOffset;
 use read::PAST_END;
 ghost use mathlib.Core.Path.{_≡_};
@@ -27,28 +28,22 @@ fn format_step(
 {
     match format {
         Format::Plain => Step::Decoded(Instruction::Ordinary(kind, 0, 0), at),
-        Format::SignedByte => {
-            ordinary::with_first(kind, operands::signed_1(read::read_u1(code, at)))
-        }
-        Format::SignedShort => {
-            ordinary::with_first(kind, operands::signed_2(read::read_u2(code, at)))
-        }
-        Format::Local => ordinary::with_first(kind, read::read_u1(code, at)),
+        Format::SignedByte => with_first(kind, operands::signed_1(read::read_u1(code, at))),
+        Format::SignedShort => with_first(kind, operands::signed_2(read::read_u2(code, at))),
+        Format::Local => with_first(kind, read::read_u1(code, at)),
         Format::ImpliedLocal(local) => Step::Decoded(Instruction::Ordinary(kind, local, 0), at),
         Format::Increment => ordinary::increment_1(code, kind, at),
-        Format::Jump2 => ordinary::with_first(kind, operands::signed_2(read::read_u2(code, at))),
-        Format::Jump4 => ordinary::with_first(kind, operands::signed_4(read::read_u4(code, at))),
+        Format::Jump2 => with_first(kind, operands::signed_2(read::read_u2(code, at))),
+        Format::Jump4 => with_first(kind, operands::signed_4(read::read_u4(code, at))),
         Format::Index1(kinds) => {
             let index = operands::index_read(pool, kinds, at, read::read_u1(code, at));
-            ordinary::with_first(kind, index)
+            with_first(kind, index)
         }
         Format::Index2(kinds, follow) => {
             let index = operands::index_read(pool, kinds, at, read::read_u2(code, at));
             ordinary::indexed_step(code, kind, index, follow)
         }
-        Format::ArrayTag => {
-            ordinary::with_first(kind, operands::array_tag_read(at, read::read_u1(code, at)))
-        }
+        Format::ArrayTag => with_first(kind, operands::array_tag_read(at, read::read_u1(code, at))),
         Format::Wide => ordinary::wide_step(code, at),
         Format::TableSwitch => switches::table_step(code, at),
         Format::LookupSwitch => switches::lookup_step(code, at),
