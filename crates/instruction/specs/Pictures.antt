@@ -9,7 +9,7 @@ use Rattle.opcodes.specs.Formats.{formatOf}
 use Rattle.opcodes.specs.Kinds.{kindOf}
 use Rattle.opcodes.specs.Operands.{Layout, layoutOf}
 use Rattle.ordinary.specs.declared.Instruction.{Instruction}
-use Rattle.ordinary.specs.Theorems.{NamedAll, OrdinaryPicture, WidePicture}
+use Rattle.ordinary.specs.Pictures.{NamedAll, OrdinaryPicture, WidePicture}
 use Rattle.switches.specs.Pictures.{TablePicture, LookupPicture}
 
 -- the bytes after an opcode of this kind, by what its format lays out there

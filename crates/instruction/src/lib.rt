@@ -7,7 +7,7 @@ use read::CodeOffset;
 use read::PAST_END;
 ghost use mathlib.Core.Path.{_≡_};
 ghost use Prim.Native.Nat.{_^_, _<_};
-ghost use Rattle.opcodes.specs.Formats.{Stands};
+ghost use Rattle.opcodes.specs.Formats.{Represents};
 ghost use Rattle.opcodes.specs.Operands.{layoutOf};
 ghost use Rattle.instruction.specs.Steps.{laidOut, stepOf};
 
@@ -54,7 +54,7 @@ fn format_step(
 // The instruction at an offset, which may be any. The table of formats is `opcodes::formats()`, made once and lent to
 // every step.
 pub fn step(formats: &[u8; 256], code: &[u8], pool: &[u8], at: CodeOffset) -> Step
-    requires { ⌜ Stands (now formats) ⌝ }
+    requires { ⌜ Represents (now formats) ⌝ }
     ensures { λ r. ⌜ r ≡ stepOf (now (code .entry)) (now (pool .entry)) at ⌝ }
 {
     let i = at.0;

@@ -8,7 +8,7 @@ use native.Mathlib.Omega.{arith}
 use borrow.Author.Tests.{leb-true}
 use lib.Dec.{leb}
 use lib.ListN.{length, getD, List·getD-eq-default, List·getD-map}
-use Rattle.opcodes.specs.Formats.{formats, formatOf, layouts, numbered, Stands}
+use Rattle.opcodes.specs.Formats.{formats, formatOf, layouts, numbered, Represents}
 use Rattle.opcodes.specs.declared.Format.{Format}
 use Rattle.opcodes.specs.declared.Format.the-variants as format
 
@@ -35,12 +35,12 @@ same-there [] i d e h = absurd (not-suc-le-zero h)
 same-there (x ∷ l) zero d e h = refl
 same-there (x ∷ l) (suc i) d e h = same-there l i d e (le-of-suc-le-suc h)
 
--- the number of a byte in a table that stands for the formats
-pub stands-for : {table : List ℕ} → Stands table → (byte : ℕ) → byte < 256 → numbered (getD table byte 0) ≡ formatOf byte
+-- the number of a byte in a table that represents the formats
+pub represented : {table : List ℕ} → Represents table → (byte : ℕ) → byte < 256 → numbered (getD table byte 0) ≡ formatOf byte
 unfolding formatOf formats
-stands-for {table} h byte small =
+represented {table} h byte small =
     sym (List·getD-map numbered table byte 0)
-    ∙ ap (λ (l : List Format). getD l byte (numbered 0)) (h .for)
+    ∙ ap (λ (l : List Format). getD l byte (numbered 0)) (h .all)
     ∙ same-there formats byte (numbered 0) format.NoInstruction small
 
 -- a number between two others is at least the lower

@@ -118,7 +118,8 @@ layouts =
 unfoldable pub numbered : ℕ → Format
 numbered number = getD layouts number format.NoInstruction
 
--- the code's table, a row for each high digit of the byte
+-- the code's table, a row for each high digit of the byte. There is nothing to believe here: it is computed that it
+-- represents the formats
 unfoldable pub numbers : List ℕ
 numbers =
     0 ∷ 0 ∷ 0 ∷ 0 ∷ 0 ∷ 0 ∷ 0 ∷ 0 ∷ 0 ∷ 0 ∷ 0 ∷ 0 ∷ 0 ∷ 0 ∷ 0 ∷ 0
@@ -139,6 +140,6 @@ numbers =
     ∷ 24 ∷ 24 ∷ 24 ∷ 24 ∷ 24 ∷ 24 ∷ 24 ∷ 24 ∷ 24 ∷ 24 ∷ 24 ∷ 24 ∷ 24 ∷ 24 ∷ 0 ∷ 0
     ∷ []
 
--- a table of numbers stands for the formats, byte by byte
-pub record Stands (table : List ℕ) : Type 0 where
-  pub for : map numbered table ≡ formats
+-- a table of numbers represents the formats, byte by byte
+pub record Represents (table : List ℕ) : Type 0 where
+  pub all : map numbered table ≡ formats

@@ -1,7 +1,7 @@
 // Which operands follow each opcode, as data, and which instructions share a kind.
 use pool::Kinds;
 ghost use mathlib.Core.Path.{_≡_};
-ghost use Rattle.opcodes.specs.Formats.{numbers, numbered, formatOf, Stands};
+ghost use Rattle.opcodes.specs.Formats.{numbers, numbered, formatOf, Represents};
 ghost use Rattle.opcodes.specs.Wide.{wideFormOf};
 ghost use Rattle.opcodes.specs.Kinds.{kindOf};
 
@@ -353,7 +353,7 @@ const FORMATS: [u8; 256] = [
 // The table, to be made once and lent to `format_of`.
 pub fn formats() -> [u8; 256]
     ensures is { λ r. ⌜ r ≡ numbers ⌝ }
-    ensures stands { λ r. ⌜ Stands r ⌝ }
+    ensures represents { λ r. ⌜ Represents r ⌝ }
 {
     FORMATS
 }
@@ -392,7 +392,7 @@ fn format_numbered(number: u8) -> Format
 
 // The operand format of a byte.
 pub fn format_of(formats: &[u8; 256], byte: u8) -> Format
-    requires { ⌜ Stands (now formats) ⌝ }
+    requires { ⌜ Represents (now formats) ⌝ }
     ensures { λ r. ⌜ r ≡ formatOf byte ⌝ }
 {
     let number = formats[byte as usize];

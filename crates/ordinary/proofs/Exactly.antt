@@ -20,7 +20,8 @@ use Rattle.ordinary.specs.declared.Instruction.{Instruction}
 use Rattle.ordinary.specs.declared.Step.{Step}
 use Rattle.ordinary.specs.declared.Step.the-variants as step
 use Rattle.ordinary.specs.Ordinary.{thenRead, ordinary, operandsFrom, laidOut, widened, wideStep}
-use Rattle.ordinary.specs.Theorems.{Pictures, NamedAll, OperandsExactly, WidePicture, WideExactly}
+use Rattle.ordinary.specs.Pictures.{Pictures, NamedAll, WidePicture}
+use Rattle.ordinary.specs.Theorems.{OperandsExactly, WideExactly}
 
 pub clash : (n : ℕ) (p : CodeOffset) (i : Instruction) (next : CodeOffset) → step.Refused n p ≡ step.Decoded i next → ⊥
 clash n p i next e = let z : _≡_ {A = ℕ} 0 1 = cc in omega arith

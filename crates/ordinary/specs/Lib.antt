@@ -1,2 +1,3 @@
 pub mod Ordinary
+pub mod Pictures
 pub mod Theorems

@@ -1,5 +1,5 @@
 -- JVMS 6.5 from the other side: the bytes of a switch after its opcode, as its format draws them. Nothing here is read,
--- and nothing has a number or a place of document 01.
+-- and nothing has a refusal's number or a place. Document 01's limit on the number of entries stands here too, as `few`.
 use Prim.Native.Nat.{ℕ, _+_, _*_, _%_, _≤_, _<_}
 use mathlib.Core.List.{List, _++_}
 use mathlib.Core.Path.{_≡_}
@@ -36,7 +36,7 @@ pub record TablePicture (at : CodeOffset) (i : Instruction) (bytes : List ℕ) :
   pub offset-words : length offsets ≡ 4 * count
   pub is : i ≡ instruction.TableSwitch (bigEndian default) (bigEndian low) (bigEndian high) (after (length padding + 12) at) count
 
--- lookupswitch: padding, default, npairs, which is not negative, and the pairs, two words each
+-- lookupswitch: padding, default, npairs, which as a signed number is not negative, and the pairs, two words each
 pub record LookupPicture (at : CodeOffset) (i : Instruction) (bytes : List ℕ) : Type 0 where
   pub padding : List ℕ
   pub default : List ℕ

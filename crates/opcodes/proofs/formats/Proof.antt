@@ -6,7 +6,7 @@ use Rattle.opcodes.proofs.formats.Tie as tie
 -- the one computed test: all 256 entries
 returns : tie.Need-returns
 unfolding formats numbers numbered
-returns c = (refl, record { for = refl })
+returns c = (refl, record { all = refl })
 
 pub formats-spec : {M : Type 1} → statement M
 formats-spec = tie.close (tie.spec returns)
