@@ -6,6 +6,7 @@ use read::PAST_END;
 use read::Read;
 ghost use mathlib.Core.Path.{_≡_};
 ghost use Prim.Native.Nat.{_+_, _%_, _^_, _<_};
+ghost use Rattle.read.specs.Reads.{readOf};
 ghost use Rattle.switches.specs.Switches.{padded, wordsFrom, entryCount, tableEntries, tableStep, lookupEntries, lookupStep};
 
 // Document 01's refusals of a switch.
@@ -16,13 +17,13 @@ pub const NEGATIVE_COUNT: u32 = 11;
 // The largest number of entries, and of pairs.
 const MOST: u32 = 0x7fff_ffff;
 
-// The next offset divisible by 4, counted from the code's start.
-fn skip_padding(at: CodeOffset) -> CodeOffset
+// The word at the next offset divisible by 4, counted from the code's start: the default of either switch.
+fn default_read(code: &[u8], at: CodeOffset) -> Read
     requires { ⌜ at .0 < 2 ^ 63 ⌝ }
-    ensures { λ r. ⌜ r ≡ padded at ⌝ }
+    ensures { λ r. ⌜ r ≡ readOf 4 (now (code .entry)) (padded at) ⌝ }
 {
     let i = at.0;
-    CodeOffset((i + 3) / 4 * 4)
+    read::read_u4(code, CodeOffset((i + 3) / 4 * 4))
 }
 
 // The offset after so many words of four bytes, or the place of the first that does not fit.
@@ -89,7 +90,7 @@ pub fn table_step(code: &[u8], at: CodeOffset) -> Step
     requires { ⌜ at .0 < 2 ^ 63 ⌝ }
     ensures { λ r. ⌜ r ≡ tableStep (now (code .entry)) at ⌝ }
 {
-    match read::read_u4(code, skip_padding(at)) {
+    match default_read(code, at) {
         Read::Value(default, low_at) => match read::read_u4(code, low_at) {
             Read::Value(low, high_at) => match read::read_u4(code, high_at) {
                 Read::Value(high, entries) => {
@@ -129,7 +130,7 @@ pub fn lookup_step(code: &[u8], at: CodeOffset) -> Step
     requires { ⌜ at .0 < 2 ^ 63 ⌝ }
     ensures { λ r. ⌜ r ≡ lookupStep (now (code .entry)) at ⌝ }
 {
-    match read::read_u4(code, skip_padding(at)) {
+    match default_read(code, at) {
         Read::Value(default, count_at) => match read::read_u4(code, count_at) {
             Read::Value(count, entries) => lookup_entries(code, count_at, default, count, entries),
             Read::Refused(number, place) => Step::Refused(number, place),
