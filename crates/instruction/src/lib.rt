@@ -72,3 +72,11 @@ pub fn step(formats: &[u8; 256], code: &[u8], pool: &[u8], at: CodeOffset) -> St
         CodeOffset(i + 1),
     )
 }
+
+// The same for who asks of one instruction alone and has made no table.
+pub fn instruction_at(code: &[u8], pool: &[u8], at: CodeOffset) -> Step
+    ensures { λ r. ⌜ r ≡ stepOf (now (code .entry)) (now (pool .entry)) at ⌝ }
+{
+    let formats = opcodes::formats();
+    step(&formats, code, pool, at)
+}
