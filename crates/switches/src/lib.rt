@@ -47,7 +47,7 @@ fn lifted(word: u32) -> u64
 }
 
 // How many entries a table has, or 0 where its bounds are refused.
-fn entry_count(low: u32, high: u32) -> u32
+pub fn entry_count(low: u32, high: u32) -> u32
     ensures { λ r. ⌜ r ≡ entryCount low high ⌝ }
 {
     let bottom = lifted(low);

@@ -1,0 +1,3 @@
+pub mod Decoding
+pub mod Theorems
+pub mod Examples

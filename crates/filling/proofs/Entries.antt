@@ -1,0 +1,34 @@
+-- The entries of an instruction: how many there are, and that they lie in the code.
+use Prim.Native.Nat.{ℕ, zero, suc}
+use mathlib.Core.List.{List}
+use mathlib.Core.Path.{_≡_, refl, ap}
+use native.Mathlib.Omega.{arith}
+use lib.ListN.{length}
+use Rattle.ordinary.specs.declared.Instruction.the-variants as instruction
+use Rattle.instruction.proofs.Exactly.{step-within}
+use Rattle.filling.specs.Filling.{tableFrom, pairsFrom}
+use Rattle.filling.specs.Theorems.{AllEntries, DecodedInside}
+
+length-table : (code : List ℕ) (key at n : ℕ) → length (tableFrom code key at n) ≡ n
+unfolding tableFrom
+length-table code key at zero = refl
+length-table code key at (suc n) = ap suc (length-table code _ _ n)
+
+length-pairs : (code : List ℕ) (at n : ℕ) → length (pairsFrom code at n) ≡ n
+unfolding pairsFrom
+length-pairs code at zero = refl
+length-pairs code at (suc n) = ap suc (length-pairs code _ n)
+
+pub all-entries : AllEntries
+all-entries code (instruction.Ordinary kind a b) = refl
+all-entries code (instruction.TableSwitch default low high from count) = length-table code low (from .0) count
+all-entries code (instruction.LookupSwitch default from count) = length-pairs code (from .0) count
+
+pub entries-inside : DecodedInside
+entries-inside code pool at (instruction.Ordinary kind a b) next e = tt
+entries-inside code pool at (instruction.TableSwitch default low high from count) next e =
+    let w = step-within code pool at _ next e in
+    omega (arith, w .ends, w .last .1)
+entries-inside code pool at (instruction.LookupSwitch default from count) next e =
+    let w = step-within code pool at _ next e in
+    omega (arith, w .ends, w .last .1)

@@ -1,0 +1,4 @@
+pub mod Laws
+pub mod Entries
+pub mod Decoded
+pub mod Examples

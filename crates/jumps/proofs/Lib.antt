@@ -1,0 +1,4 @@
+pub mod Laws
+pub mod First
+pub mod Exactly
+pub mod Examples

@@ -1,0 +1,4 @@
+pub mod Jumps
+pub mod Stored
+pub mod Theorems
+pub mod Examples

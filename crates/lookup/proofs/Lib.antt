@@ -1,0 +1,5 @@
+pub mod First
+pub mod Rising
+pub mod Answers
+pub mod Exactly
+pub mod Examples
