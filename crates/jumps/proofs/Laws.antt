@@ -138,8 +138,12 @@ module _ (starts entries : List ℕ) (stored : Record) where
         → rest ≡ wordsCheck starts (record { 0 = offset }) 1 (listed (entryJump entries first) 0 number) → rest ≡ jumpsCheck starts (storedJumps entries stored)
     own-lands e d n r = r ∙ rw (d, n) (sym (both ∙ rw e))
 
+-- the instructions of a store start at its offsets
+pub starts-in : (records : List ℕ) (count : ℕ) (entries : List ℕ) → startsOf (jumpsIn records count entries) ≡ offsetsOf records count
+starts-in records count entries = map-listed _ _ count 0
+
 -- the jumps of a record that was read
 pub record-read : (records : List ℕ) (count : ℕ) (entries : List ℕ) (i : ℕ) {stored : Record} {r : Checked}
     → stored ≡ recordAt records (index i) → r ≡ jumpsCheck (offsetsOf records count) (storedJumps entries stored)
     → r ≡ jumpsCheck (startsOf (jumpsIn records count entries)) (storedJumps entries (recordAt records (index i)))
-record-read records count entries i e h = h ∙ ap₂ jumpsCheck (sym (map-listed _ _ count 0)) (ap (storedJumps entries) e)
+record-read records count entries i e h = h ∙ ap₂ jumpsCheck (sym (starts-in records count entries)) (ap (storedJumps entries) e)
