@@ -1,4 +1,5 @@
 pub mod Steps
+pub mod Names
 pub mod Pictures
 pub mod Theorems
 pub mod Examples

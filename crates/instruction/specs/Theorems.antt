@@ -4,13 +4,16 @@ use mathlib.Core.List.{List}
 use mathlib.Core.Logic.{_↔_}
 use mathlib.Core.Path.{_≡_}
 use lib.ListN.{length}
+use Rattle.laws.specs.Bytes.{In}
 use Rattle.read.specs.declared.CodeOffset.{CodeOffset}
 use Rattle.read.specs.Reads.{after}
+use Rattle.pool.specs.Entries.{entryAt}
 use Rattle.operands.specs.Theorems.{Stand}
 use Rattle.ordinary.specs.declared.Instruction.{Instruction}
 use Rattle.ordinary.specs.declared.Instruction.the-variants as instruction
 use Rattle.ordinary.specs.declared.Step.the-variants as step
 use Rattle.instruction.specs.Steps.{stepOf}
+use Rattle.instruction.specs.Names.{namesAt}
 use Rattle.instruction.specs.Pictures.{Picture, NamedIn}
 
 -- the code at the offset starts with the instruction's bytes, as many as to the next offset, and the pool entries that
@@ -50,3 +53,15 @@ abbrev pub StepWithin : Type 0
 StepWithin =
     (code pool : List ℕ) (at : CodeOffset) (i : Instruction) (next : CodeOffset)
     → stepOf code pool at ≡ step.Decoded i next → Within code at i next
+
+-- The refusals of a step are 3 to 11: proved as `step-refuses`, in proofs/Refusals.antt
+abbrev pub StepRefuses : Type 0
+StepRefuses =
+    (code pool : List ℕ) (at : CodeOffset) (n : ℕ) (place : CodeOffset) → stepOf code pool at ≡ step.Refused n place → (3 ≤ n) × (n ≤ 11)
+
+-- Two pool tables that agree on the entries that the instruction at an offset names give the same step: proved as
+-- `step-pool`, in proofs/Pool.antt
+abbrev pub StepPool : Type 0
+StepPool =
+    (code pool other : List ℕ) (at : CodeOffset) → ((i : ℕ) → In i (namesAt code at) → entryAt pool i ≡ entryAt other i)
+    → stepOf code pool at ≡ stepOf code other at
