@@ -1,3 +1,5 @@
 pub mod Laws
 pub mod Exactly
+pub mod Refusals
+pub mod Pool
 pub mod Examples

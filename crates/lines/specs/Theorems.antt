@@ -25,7 +25,7 @@ Follow code pool at (Lines.stop n p) = (at .0 < length code) × (stepOf code poo
 abbrev pub LinesExactly : Type 0
 LinesExactly = (code pool : List ℕ) (ls : Lines) → (linesOf code pool ≡ ls) ↔ Follow code pool (record { 0 = 0 }) ls
 
--- An offset where an instruction of the code stands, or where the first refused one does
+-- An offset where an instruction of the code stands, where the first refused one does, or where the code ends
 pub data Reached (code pool : List ℕ) : CodeOffset → Type 0 where
   first : Reached code pool (record { 0 = 0 })
   next : {at after : CodeOffset} {i : Instruction} → Reached code pool at → stepOf code pool at ≡ step.Decoded i after → Reached code pool after

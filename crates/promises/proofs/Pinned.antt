@@ -1,0 +1,53 @@
+-- The law of determinacy, cited for each entry.
+use mathlib.Core.List.{List}
+use mathlib.Core.Path.{_≡_, sym, ap, ap₂, _∙_}
+use Prim.Native.Nat.{ℕ}
+use Rattle.laws.specs.Pinned.{Pinned}
+use Rattle.laws.proofs.Pinned.{exactly}
+use Rattle.promises.specs.Pinned.{AnswerWith, AnswerWithTwo, EntriesPinned}
+
+-- an answer and what is lent, each pinned down by itself
+one : {A : Type 0} (answer : A) (lent : List ℕ) → AnswerWith answer lent
+one answer lent o p a b = ap₂ (λ r l. (r, l)) (exactly _ answer (o .0) (p .0) (a .0) (b .0)) (exactly _ lent (o .1) (p .1) (a .1) (b .1))
+
+two : {A : Type 0} (answer : A) (lent other : List ℕ) → AnswerWithTwo answer lent other
+two answer lent other o p a b =
+    ap₂ (λ r (l : List ℕ × List ℕ). (r, l .0, l .1)) (exactly _ answer (o .0) (p .0) (a .0) (b .0))
+    (one lent other (o .1, o .2) (p .1, p .2) (a .1, a .2) (b .1, b .2))
+
+pub entries-pinned : EntriesPinned
+entries-pinned =
+    record {
+      decode = λ code pool records entries. two _ _ _;
+      find = λ records count offset. exactly _ _;
+      instruction-at = λ code pool at. exactly _ _;
+      read-u1 = λ code at. exactly _ _;
+      read-u2 = λ code at. exactly _ _;
+      read-u4 = λ code at. exactly _ _;
+      entry-at = λ pool index. exactly _ _;
+      entry-of-kind = λ pool kinds index. exactly _ _;
+      is-unqualified-name = λ name. exactly _ _;
+      is-unqualified-method-name = λ init clinit name. exactly _ _;
+      is-binary-name = λ name. exactly _ _;
+      is-module-name = λ name. exactly _ _;
+      class-name = λ text. exactly _ _;
+      is-class-name = λ name. exactly _ _;
+      name-end = λ text start. exactly _ _;
+      field-prefix = λ text. exactly _ _;
+      field-whole = λ text. exactly _ _;
+      return-prefix = λ text. exactly _ _;
+      return-whole = λ text. exactly _ _;
+      array-whole = λ text. exactly _ _;
+      is-field-descriptor = λ text. exactly _ _;
+      is-return-descriptor = λ text. exactly _ _;
+      is-array-descriptor = λ text. exactly _ _;
+      is-method-descriptor = λ text. exactly _ _;
+      method-prefix = λ text store. one _ _;
+      method-whole = λ text store. one _ _;
+      method-check = λ text. exactly _ _;
+      print-field = λ text part out. one _ _;
+      print-return = λ text part out. one _ _;
+      print-method = λ text parameters count returned out. one _ _;
+      method-identifier = λ name descriptor out. one _ _;
+      clear = λ store. exactly _ _;
+    }

@@ -1,0 +1,73 @@
+-- Every answer is pinned down: for each entry, any two answers that its promise allows are equal, and so are any two
+-- contents of what is lent. The promises are those of the contracts in src/, with what was lent named as it was at the call.
+-- One law, proved in proofs/Pinned.antt as `entries-pinned` for each.
+use Prim.Native.Nat.{ℕ, _-_}
+use mathlib.Core.Bool.{Bool, false}
+use mathlib.Core.List.{List}
+use mathlib.Core.Path.{_≡_}
+use lib.ListN.{length, drop, replicate}
+use Rattle.laws.specs.Bytes.{beginsWith}
+use Rattle.laws.specs.Pinned.{Pinned}
+use Rattle.read.specs.declared.CodeOffset.{CodeOffset}
+use Rattle.read.specs.Reads.{readOf}
+use Rattle.names.specs.Names.{isUnqualifiedName, isMethodName, isBinaryName, isModuleName}
+use Rattle.class_names.specs.Names.{nameFrom, className, isClassName}
+use Rattle.descriptors.specs.declared.FieldDescriptor.{FieldDescriptor}
+use Rattle.descriptors.specs.Texts.{fieldPrefix, fieldText, returnPrefix, returnText, arrayText, isFieldText, isReturnText, isArrayText}
+use Rattle.methods.specs.Texts.{roomOf, methodPrefix, methodText, methodCheck, prefixStore, textStore, isMethodText}
+use Rattle.printing.specs.Printing.{printField, printReturn, fieldOutput, returnOutput}
+use Rattle.method_printing.specs.Printing.{printMethod, methodOutput}
+use Rattle.identifier.specs.Identifier.{identifying, identifierOutput}
+use Rattle.pool.specs.declared.Kinds.{Kinds}
+use Rattle.pool.specs.Entries.{entryAt, entryOfKind}
+use Rattle.instruction.specs.Steps.{stepOf}
+use Rattle.lookup.specs.Lookup.{lookupOf}
+use Rattle.bytecode.specs.Decoding.{decoding, recordsAfter, entriesAfter}
+
+-- an answer alone, with the contents of one lent slice afterwards, and with those of two
+abbrev pub Answer : {A : Type 0} → A → Type 0
+Answer {A = A} answer = Pinned (λ (r : A). r ≡ answer)
+
+abbrev pub AnswerWith : {A : Type 0} → A → List ℕ → Type 0
+AnswerWith {A = A} answer lent = Pinned (λ (o : A × List ℕ). (o .0 ≡ answer) × (o .1 ≡ lent))
+
+abbrev pub AnswerWithTwo : {A : Type 0} → A → List ℕ → List ℕ → Type 0
+AnswerWithTwo {A = A} answer lent other = Pinned (λ (o : A × List ℕ × List ℕ). (o .0 ≡ answer) × (o .1 ≡ lent) × (o .2 ≡ other))
+
+pub record EntriesPinned : Type 0 where
+  -- code
+  pub decode : (code pool records entries : List ℕ) → AnswerWithTwo (decoding code pool records entries) (recordsAfter code pool records entries) (entriesAfter code pool records entries)
+  pub find : (records : List ℕ) (count : ℕ) (offset : CodeOffset) → Answer (lookupOf records count offset)
+  pub instruction-at : (code pool : List ℕ) (at : CodeOffset) → Answer (stepOf code pool at)
+  pub read-u1 : (code : List ℕ) (at : CodeOffset) → Answer (readOf 1 code at)
+  pub read-u2 : (code : List ℕ) (at : CodeOffset) → Answer (readOf 2 code at)
+  pub read-u4 : (code : List ℕ) (at : CodeOffset) → Answer (readOf 4 code at)
+  pub entry-at : (pool : List ℕ) (index : ℕ) → Answer (entryAt pool index)
+  pub entry-of-kind : (pool : List ℕ) (kinds : Kinds) (index : ℕ) → Answer (entryOfKind pool kinds index)
+  -- names
+  pub is-unqualified-name : (name : List ℕ) → Answer (isUnqualifiedName name)
+  pub is-unqualified-method-name : (init clinit : Bool) (name : List ℕ) → Answer (isMethodName init clinit name)
+  pub is-binary-name : (name : List ℕ) → Answer (isBinaryName name)
+  pub is-module-name : (name : List ℕ) → Answer (isModuleName name)
+  -- texts
+  pub class-name : (text : List ℕ) → Answer (className text)
+  pub is-class-name : (name : List ℕ) → Answer (isClassName name)
+  pub name-end : (text : List ℕ) (start : ℕ) → Answer (nameFrom false start (drop start text))
+  pub field-prefix : (text : List ℕ) → Answer (fieldPrefix text)
+  pub field-whole : (text : List ℕ) → Answer (fieldText text)
+  pub return-prefix : (text : List ℕ) → Answer (returnPrefix text)
+  pub return-whole : (text : List ℕ) → Answer (returnText text)
+  pub array-whole : (text : List ℕ) → Answer (arrayText text)
+  pub is-field-descriptor : (text : List ℕ) → Answer (isFieldText text)
+  pub is-return-descriptor : (text : List ℕ) → Answer (isReturnText text)
+  pub is-array-descriptor : (text : List ℕ) → Answer (isArrayText text)
+  pub is-method-descriptor : (text : List ℕ) → Answer (isMethodText text)
+  pub method-prefix : (text store : List ℕ) → AnswerWith (methodPrefix (roomOf store) text) (prefixStore store text)
+  pub method-whole : (text store : List ℕ) → AnswerWith (methodText (roomOf store) text) (textStore store text)
+  pub method-check : (text : List ℕ) → Answer (methodCheck text)
+  -- writing
+  pub print-field : (text : List ℕ) (part : FieldDescriptor) (out : List ℕ) → AnswerWith (printField text part (length out)) (fieldOutput text part out)
+  pub print-return : (text : List ℕ) (part : FieldDescriptor) (out : List ℕ) → AnswerWith (printReturn text part (length out)) (returnOutput text part out)
+  pub print-method : (text parameters : List ℕ) (count : ℕ) (returned : FieldDescriptor) (out : List ℕ) → AnswerWith (printMethod text parameters count returned (length out)) (methodOutput text parameters count returned out)
+  pub method-identifier : (name descriptor out : List ℕ) → AnswerWith (identifying name descriptor (length out)) (identifierOutput name descriptor out)
+  pub clear : (store : List ℕ) → Answer (replicate {A = ℕ} (length store) 0)

@@ -1,0 +1,29 @@
+-- Of the stores only their room counts. The proofs are in proofs/Stores.antt.
+use Prim.Native.Nat.{ℕ, _*_, _≤_}
+use mathlib.Core.List.{List}
+use mathlib.Core.Path.{_≡_}
+use lib.ListN.{take}
+use Rattle.records.specs.Records.{recordWords, entryWords, recordRoom, entryRoom}
+use Rattle.bytecode.specs.declared.Decoded.{Decoded}
+use Rattle.bytecode.specs.declared.Decoded.the-variants as decoded
+use Rattle.bytecode.specs.Decoding.{decoding, recordsAfter, entriesAfter}
+
+-- an answer that is not for want of room
+abbrev pub NotForRoom : Decoded → Type 0
+NotForRoom (decoded.Accepted k m) = Unit {0}
+NotForRoom (decoded.Refused n place second) = (n ≡ 14 → ⊥) × (n ≡ 15 → ⊥)
+
+-- Larger stores give the same answer: proved as `larger-stores`
+abbrev pub LargerStores : Type 0
+LargerStores =
+    (code pool records entries records′ entries′ : List ℕ) → recordRoom records ≤ recordRoom records′ → entryRoom entries ≤ entryRoom entries′
+    → NotForRoom (decoding code pool records entries)
+    → decoding code pool records′ entries′ ≡ decoding code pool records entries
+
+-- and the same used words, whatever stood in the stores: proved as `same-words`
+abbrev pub SameWords : Type 0
+SameWords =
+    (code pool records entries records′ entries′ : List ℕ) (k m : ℕ)
+    → decoding code pool records entries ≡ decoded.Accepted k m → decoding code pool records′ entries′ ≡ decoded.Accepted k m
+    → (take (k * recordWords) (recordsAfter code pool records′ entries′) ≡ take (k * recordWords) (recordsAfter code pool records entries))
+    × (take (m * entryWords) (entriesAfter code pool records′ entries′) ≡ take (m * entryWords) (entriesAfter code pool records entries))
