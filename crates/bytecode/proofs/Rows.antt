@@ -5,16 +5,21 @@ use mathlib.Core.List.{List, [], _∷_, _++_}
 use mathlib.Core.Path.{_≡_, refl, sym, ap, ap₂, _∙_}
 use native.Mathlib.Nat.{add-zero}
 use native.Mathlib.Omega.{arith}
+use borrow.Author.Tests.{leb-true}
+use lib.Dec.{leb}
 use lib.ListN.{length, set, drop, length-append}
-use lib.Seq.{sets}
+use lib.Seq.{sets, sets-eq}
 use Rattle.instruction.specs.Theorems.{entriesOf}
-use Rattle.lines.specs.Lines.{Line, Lines, listOf}
+use Rattle.lines.specs.Lines.{Lines, linesOf, listOf}
 use Rattle.records.specs.declared.SwitchEntry.{SwitchEntry}
-use Rattle.records.specs.Records.{recordWords, entryWords, wordsOf, allEntryWords}
+use Rattle.records.specs.Records.{recordWords, entryWords, recordRoom, entryRoom, wordsOf, allEntryWords}
 use Rattle.filling.specs.Filling.{entriesIn, recordOf}
 use Rattle.filling.proofs.Entries.{all-entries}
-use Rattle.bytecode.specs.Decoding.{withRecord, withEntries, recordsFrom, entriesFrom}
-use Rattle.bytecode.specs.Theorems.{recordRow, entryRow, RecordsInRow, EntriesInRow}
+use Rattle.bytecode.specs.declared.Run.the-variants as run
+use Rattle.bytecode.specs.Decoding.{fitting, fitted, runFrom, withRecord, withEntries, recordsFrom, entriesFrom}
+use Rattle.bytecode.specs.Theorems.{recordRow, entryRow, RecordsInRow, EntriesInRow, AcceptedStores}
+use Rattle.bytecode.proofs.Laws.{fitting-short, run-count}
+use Rattle.bytecode.proofs.Accepted.{acceptance, accepted-records, accepted-entries}
 
 sets-more : (ws vs l : List ℕ) (i : ℕ) → sets (sets l i ws) (i + length ws) vs ≡ sets l i (ws ++ vs)
 sets-more [] vs l i = rw add-zero
@@ -48,3 +53,67 @@ entries-in-row code (Lines.line l rest) m entries =
     ∙ sets-more own (entryRow code (listOf rest)) entries (m * entryWords)
 entries-in-row code Lines.end m entries = refl
 entries-in-row code (Lines.stop n p) m entries = refl
+
+-- How long the rows are, by what a run counts
+record-words : (ls : Lines) (k m k′ m′ : ℕ) → runFrom k m ls ≡ run.Filled k′ m′ → k * recordWords + length (recordRow m (listOf ls)) ≡ k′ * recordWords
+unfolding runFrom recordRow listOf
+record-words (Lines.line l rest) k m k′ m′ e = omega (arith, record-words rest (k + 1) (m + entriesOf (l .instruction)) k′ m′ e)
+record-words Lines.end k m k′ m′ e = let same : k ≡ k′ = cc in omega arith
+record-words (Lines.stop n p) k m k′ m′ e = absurd (let z : _≡_ {A = ℕ} 0 1 = cc in omega arith)
+
+row-words : (code : List ℕ) (ls : Lines) (k m k′ m′ : ℕ) → runFrom k m ls ≡ run.Filled k′ m′ → m * entryWords + length (entryRow code (listOf ls)) ≡ m′ * entryWords
+unfolding runFrom entryRow listOf
+row-words code (Lines.line l rest) k m k′ m′ e =
+    let own = allEntryWords (entriesIn code (l .instruction)) in
+    omega (
+      arith,
+      row-words code rest (k + 1) (m + entriesOf (l .instruction)) k′ m′ e,
+      length-append own (entryRow code (listOf rest)),
+      entry-words (entriesIn code (l .instruction)),
+      all-entries code (l .instruction),
+    )
+row-words code Lines.end k m k′ m′ e = let same : m ≡ m′ = cc in omega arith
+row-words code (Lines.stop n p) k m k′ m′ e = absurd (let z : _≡_ {A = ℕ} 0 1 = cc in omega arith)
+
+-- Entries that fit are no more than the room for them
+run-entries : (ls : Lines) (k m records entries k′ m′ : ℕ) → runFrom k m (fitting records entries ls) ≡ run.Filled k′ m′ → m′ ≤ m + entries
+unfolding fitting runFrom
+run-entries (Lines.line l rest) k m records entries k′ m′ e =
+    go (leb (entriesOf (l .instruction)) entries) refl records e (λ left. run-entries rest (k + 1) (m + entriesOf (l .instruction)) left (entries - entriesOf (l .instruction)) k′ m′)
+  where
+    fit : Bool → ℕ → Lines
+    fit t n = elim t [ true ↦ elim n [ suc left ↦ Lines.line l (fitting left (entries - entriesOf (l .instruction)) rest) | zero ↦ Lines.stop 15 (l .at) ] | false ↦ Lines.stop 14 (l .at) ]
+
+    go :
+        (t : Bool) → leb (entriesOf (l .instruction)) entries ≡ t → (n : ℕ) → runFrom k m (fit t n) ≡ run.Filled k′ m′
+        → ((left : ℕ) → runFrom (k + 1) (m + entriesOf (l .instruction)) (fitting left (entries - entriesOf (l .instruction)) rest) ≡ run.Filled k′ m′ → m′ ≤ m + entriesOf (l .instruction) + (entries - entriesOf (l .instruction)))
+        → m′ ≤ m + entries
+    go true q (suc n) e h =
+        let room : entriesOf (l .instruction) ≤ entries = leb-true _ _ q in
+        omega (arith, h n e)
+    go true q zero e h = absurd (let z : _≡_ {A = ℕ} 0 1 = cc in omega arith)
+    go false q n e h = absurd (let z : _≡_ {A = ℕ} 0 1 = cc in omega arith)
+run-entries Lines.end k m records entries k′ m′ e = let same : m ≡ m′ = cc in omega arith
+run-entries (Lines.stop n p) k m records entries k′ m′ e = absurd (let z : _≡_ {A = ℕ} 0 1 = cc in omega arith)
+
+-- words at the front of a store
+at-front : (words store : List ℕ) (n : ℕ) → length words ≡ n → n ≤ length store → sets store 0 words ≡ words ++ drop n store
+at-front words store n e h =
+    let fits : 0 + length words ≤ length store = omega arith in
+    let all : 0 + length words ≡ n = omega arith in
+    sets-eq words store 0 fits ∙ ap (λ (k : ℕ). words ++ drop k store) all
+
+pub accepted-stores : AcceptedStores
+accepted-stores code pool records entries k m e =
+    let a = acceptance code pool records entries k m e in
+    let fit = ap (runFrom 0 0) (a .all-fit) ∙ a .filled in
+    let some = fitting-short (linesOf code pool) (recordRoom records) (entryRoom entries) in
+    let number = run-count (fitted code pool records entries) 0 0 k m fit in
+    let few = run-entries (linesOf code pool) 0 0 (recordRoom records) (entryRoom entries) k m fit in (
+      accepted-records code pool records entries k m e
+          ∙ records-in-row (linesOf code pool) 0 0 records
+          ∙ at-front (recordRow 0 (listOf (linesOf code pool))) records (k * recordWords) (omega (arith, record-words (linesOf code pool) 0 0 k m (a .filled))) (omega (arith, some, number)),
+      accepted-entries code pool records entries k m e
+          ∙ entries-in-row code (linesOf code pool) 0 entries
+          ∙ at-front (entryRow code (listOf (linesOf code pool))) entries (m * entryWords) (omega (arith, row-words code (linesOf code pool) 0 0 k m (a .filled))) (omega (arith, few)),
+    )

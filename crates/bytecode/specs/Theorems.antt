@@ -1,4 +1,5 @@
--- What the stores hold where a code is accepted, without steps. The proofs are in proofs/Rows.antt and proofs/Stored.antt.
+-- What the stores hold where a code is accepted, without steps. The proofs are in proofs/Rows.antt and
+-- proofs/Accepted.antt.
 use Prim.Native.Nat.{ℕ, _+_, _*_}
 use mathlib.Core.List.{List, [], _∷_, _++_}
 use mathlib.Core.Path.{_≡_}

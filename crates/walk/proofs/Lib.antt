@@ -1,0 +1,4 @@
+pub mod Any
+pub mod Accepted
+pub mod Stores
+pub mod Examples

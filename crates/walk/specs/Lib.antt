@@ -1,0 +1,4 @@
+pub mod Walk
+pub mod Nodes
+pub mod Theorems
+pub mod Examples
