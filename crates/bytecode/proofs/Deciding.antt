@@ -40,7 +40,7 @@ module _ (code pool records₀ entries₀ : List ℕ) where
     pool-too-long h k = decides-refused records entries (rw (le-leb _ _ h, lt-leb _ _ k, decoding))
 
   module _ (h : length code ≤ codeLimit) (k : length pool ≤ poolLimit) where
-    within : decoding code pool records₀ entries₀ ≡ judged (runFrom 0 0 (fitted code pool records₀ entries₀)) (check (jumpsOf code (fitted code pool records₀ entries₀)))
+    pub within : decoding code pool records₀ entries₀ ≡ judged (runFrom 0 0 (fitted code pool records₀ entries₀)) (check (jumpsOf code (fitted code pool records₀ entries₀)))
     unfolding decoding
     within = rw (le-leb _ _ h, le-leb _ _ k, decoding)
 

@@ -55,13 +55,13 @@ entries-in-row code Lines.end m entries = refl
 entries-in-row code (Lines.stop n p) m entries = refl
 
 -- How long the rows are, by what a run counts
-record-words : (ls : Lines) (k m k′ m′ : ℕ) → runFrom k m ls ≡ run.Filled k′ m′ → k * recordWords + length (recordRow m (listOf ls)) ≡ k′ * recordWords
+pub record-words : (ls : Lines) (k m k′ m′ : ℕ) → runFrom k m ls ≡ run.Filled k′ m′ → k * recordWords + length (recordRow m (listOf ls)) ≡ k′ * recordWords
 unfolding runFrom recordRow listOf
 record-words (Lines.line l rest) k m k′ m′ e = omega (arith, record-words rest (k + 1) (m + entriesOf (l .instruction)) k′ m′ e)
 record-words Lines.end k m k′ m′ e = let same : k ≡ k′ = cc in omega arith
 record-words (Lines.stop n p) k m k′ m′ e = absurd (let z : _≡_ {A = ℕ} 0 1 = cc in omega arith)
 
-row-words : (code : List ℕ) (ls : Lines) (k m k′ m′ : ℕ) → runFrom k m ls ≡ run.Filled k′ m′ → m * entryWords + length (entryRow code (listOf ls)) ≡ m′ * entryWords
+pub row-words : (code : List ℕ) (ls : Lines) (k m k′ m′ : ℕ) → runFrom k m ls ≡ run.Filled k′ m′ → m * entryWords + length (entryRow code (listOf ls)) ≡ m′ * entryWords
 unfolding runFrom entryRow listOf
 row-words code (Lines.line l rest) k m k′ m′ e =
     let own = allEntryWords (entriesIn code (l .instruction)) in
@@ -76,7 +76,7 @@ row-words code Lines.end k m k′ m′ e = let same : m ≡ m′ = cc in omega a
 row-words code (Lines.stop n p) k m k′ m′ e = absurd (let z : _≡_ {A = ℕ} 0 1 = cc in omega arith)
 
 -- Entries that fit are no more than the room for them
-run-entries : (ls : Lines) (k m records entries k′ m′ : ℕ) → runFrom k m (fitting records entries ls) ≡ run.Filled k′ m′ → m′ ≤ m + entries
+pub run-entries : (ls : Lines) (k m records entries k′ m′ : ℕ) → runFrom k m (fitting records entries ls) ≡ run.Filled k′ m′ → m′ ≤ m + entries
 unfolding fitting runFrom
 run-entries (Lines.line l rest) k m records entries k′ m′ e =
     go (leb (entriesOf (l .instruction)) entries) refl records e (λ left. run-entries rest (k + 1) (m + entriesOf (l .instruction)) left (entries - entriesOf (l .instruction)) k′ m′)

@@ -1,2 +1,5 @@
+pub mod Decode
+pub mod Stores
+pub mod Pool
 pub mod Settled
 pub mod Pinned
