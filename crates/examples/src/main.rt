@@ -11,6 +11,7 @@ use read::CodeOffset;
 use records::wide;
 ghost use Prim.Native.Nat.{_≤_};
 
+// How many `show_example` knows.
 const EXAMPLES: usize = 23;
 
 fn print(bytes: &[u8]) {
@@ -143,6 +144,7 @@ fn show_code(code: &[u8]) {
     show_decoding(code, b"");
 }
 
+// A code of zeros, each a nop.
 fn show_nops(length: usize)
     requires { ⌜ length ≤ 65536 ⌝ }
 {
@@ -190,10 +192,11 @@ fn show_class_name(text: &[u8]) {
     print_checked(class_names::class_name(text));
 }
 
-// The examples in document 01's order. A few nops more than fit the store stand beside those that no code may have.
+// The examples in document 01's order. The 65,535 nops are a neighbour: as many as a code may have, too many for the store.
 fn show_example(number: usize) {
     match number {
         0 => show_code(b"\x1a\x99\x00\x06\x84\x00\xff\xb1"),
+        // tableswitch, padding, the words 24, 0, 1, 24, 24, and return
         1 => show_code(b"\xaa\0\0\0\0\0\0\x18\0\0\0\0\0\0\0\x01\0\0\0\x18\0\0\0\x18\xb1"),
         2 => show_code(b""),
         3 => show_code(b"\xa7\x00\x03"),
@@ -215,6 +218,7 @@ fn show_example(number: usize) {
         19 => show_class_name(b"a;"),
         20 => show_dimensions(255),
         21 => show_dimensions(256),
+        // tableswitch, padding, the default 0, the least low and the greatest high
         _ => show_code(b"\xaa\0\0\0\0\0\0\0\x80\0\0\0\x7f\xff\xff\xff"),
     }
     print(b"\n");

@@ -1,12 +1,11 @@
 use mathlib.Core.Path.{sym}
-use native.Mathlib.Omega.{arith}
 use borrow.Author.Needs.{needs}
 use lib.Seq.{length-take-le}
 use Rattle.examples.proofs.show_nops.Statement.{statement}
 use Rattle.examples.proofs.show_nops.Tie as tie
 
 slice-aggregate-show-decoding : tie.Need-slice-aggregate-show-decoding
-slice-aggregate-show-decoding c = sym (length-take-le _ _ (omega arith))
+slice-aggregate-show-decoding c = sym (length-take-le _ _ (search needs))
 
 pub show-nops-spec : {M : Type 1} → statement M
 show-nops-spec =

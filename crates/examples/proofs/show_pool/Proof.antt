@@ -1,5 +1,4 @@
 use mathlib.Core.Path.{sym}
-use native.Mathlib.Omega.{arith}
 use borrow.Author.Needs.{needs}
 use lib.Seq.{length-take-le}
 use Rattle.examples.proofs.show_pool.Statement.{statement}
