@@ -1,6 +1,6 @@
 -- What an acceptance means: both lengths are within their limits, all instructions have room, the code ends with the last
 -- of them, and every jump lands. The stores then tell the jumps of these instructions.
-use Prim.Native.Nat.{ℕ, zero, suc, _+_, _-_, _≤_}
+use Prim.Native.Nat.{ℕ, _+_, _-_, _≤_}
 use mathlib.Core.Bool.{Bool, true, false}
 use mathlib.Core.List.{List}
 use mathlib.Core.Path.{_≡_, refl, sym, ap, ap₂, _∙_, subst}
@@ -20,26 +20,19 @@ use Rattle.bytecode.specs.declared.Decoded.the-variants as decoded
 use Rattle.bytecode.specs.declared.Run.{Run}
 use Rattle.bytecode.specs.declared.Run.the-variants as run
 use Rattle.bytecode.specs.Decoding.{codeLimit, poolLimit, fitting, fitted, runFrom, recordsFrom, entriesFrom, jumpsOf, judged, decoding, storeAfter, recordsAfter, entriesAfter}
+use Rattle.bytecode.proofs.Laws.{by-fitting, not-filled}
 use Rattle.bytecode.proofs.Stored.{filled-jumps}
 
 -- lines that fill stores fit all
 pub filled-fits : (ls : Lines) (records entries k m k′ m′ : ℕ) → runFrom k m (fitting records entries ls) ≡ run.Filled k′ m′ → fitting records entries ls ≡ ls
-unfolding fitting runFrom
-filled-fits (Lines.line l rest) records entries k m k′ m′ e =
-    go (leb (entriesOf (l .instruction)) entries) records e (λ left. filled-fits rest left (entries - entriesOf (l .instruction)) (k + 1) (m + entriesOf (l .instruction)) k′ m′)
-  where
-    left : ℕ → Lines
-    left n = fitting n (entries - entriesOf (l .instruction)) rest
-
-    fit : Bool → ℕ → Lines
-    fit t n = elim t [ true ↦ elim n [ suc n ↦ Lines.line l (left n) | zero ↦ Lines.stop 15 (l .at) ] | false ↦ Lines.stop 14 (l .at) ]
-
-    go : (t : Bool) (n : ℕ) → runFrom k m (fit t n) ≡ run.Filled k′ m′ → ((n : ℕ) → runFrom (k + 1) (m + entriesOf (l .instruction)) (left n) ≡ run.Filled k′ m′ → left n ≡ rest) → fit t n ≡ Lines.line l rest
-    go true (suc n) e h = ap (Lines.line l) (h n e)
-    go true zero e h = absurd (let z : _≡_ {A = ℕ} 0 1 = cc in omega arith)
-    go false n e h = absurd (let z : _≡_ {A = ℕ} 0 1 = cc in omega arith)
-filled-fits Lines.end records entries k m k′ m′ e = refl
-filled-fits (Lines.stop n p) records entries k m k′ m′ e = refl
+unfolding runFrom
+filled-fits =
+    by-fitting (λ records entries ls fit. (k m k′ m′ : ℕ) → runFrom k m fit ≡ run.Filled k′ m′ → fit ≡ ls)
+    (λ l rest fit records entries room h k m k′ m′ e. ap (Lines.line l) (h (k + 1) (m + entriesOf (l .instruction)) k′ m′ e))
+    (λ l rest records entries k m k′ m′ e. absurd (not-filled e))
+    (λ l rest entries k m k′ m′ e. absurd (not-filled e))
+    (λ records entries k m k′ m′ e. refl)
+    (λ records entries n p k m k′ m′ e. refl)
 
 never : {n : ℕ} {p : CodeOffset} {second k m : ℕ} → decoded.Refused n p second ≡ decoded.Accepted k m → ⊥
 never e = let z : _≡_ {A = ℕ} 0 1 = cc in omega arith

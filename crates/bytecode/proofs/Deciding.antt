@@ -14,7 +14,7 @@ use Rattle.bytecode.specs.declared.Decoded.{Decoded}
 use Rattle.bytecode.specs.declared.Decoded.the-variants as decoded
 use Rattle.bytecode.specs.declared.Run.{Run}
 use Rattle.bytecode.specs.declared.Run.the-variants as run
-use Rattle.bytecode.specs.Decoding.{codeLimit, poolLimit, fitted, runFrom, recordsFrom, entriesFrom, jumpsOf, judged, decoding, storeAfter, recordsAfter, entriesAfter}
+use Rattle.bytecode.specs.Decoding.{codeLimit, poolLimit, fitted, runFrom, jumpsOf, judged, decoding, storeAfter, recordsAfter, entriesAfter}
 use Rattle.bytecode.proofs.Filling.{Fills}
 use Rattle.bytecode.proofs.Stored.{filled-sorted, filled-held, filled-jumps}
 

@@ -1,5 +1,4 @@
 use mathlib.Core.Path.{refl}
-use Rattle.laws.specs.Listed.{listed}
 use Rattle.read.specs.Reads.{bigEndian, readOf}
 use Rattle.opcodes.specs.Formats.{formats, formatOf}
 use Rattle.opcodes.specs.Kinds.{kindOf}

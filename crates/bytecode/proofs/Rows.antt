@@ -1,12 +1,9 @@
 -- Lines are stored in a row.
-use Prim.Native.Nat.{ℕ, zero, suc, _+_, _-_, _*_, _≤_, _<_}
-use mathlib.Core.Bool.{Bool, true, false}
+use Prim.Native.Nat.{ℕ, suc, _+_, _-_, _*_, _≤_}
 use mathlib.Core.List.{List, [], _∷_, _++_}
-use mathlib.Core.Path.{_≡_, refl, sym, ap, ap₂, _∙_}
+use mathlib.Core.Path.{_≡_, refl, ap, _∙_}
 use native.Mathlib.Nat.{add-zero}
 use native.Mathlib.Omega.{arith}
-use borrow.Author.Tests.{leb-true}
-use lib.Dec.{leb}
 use lib.ListN.{length, set, drop, length-append}
 use lib.Seq.{sets, sets-eq}
 use Rattle.instruction.specs.Theorems.{entriesOf}
@@ -18,7 +15,7 @@ use Rattle.filling.proofs.Entries.{all-entries}
 use Rattle.bytecode.specs.declared.Run.the-variants as run
 use Rattle.bytecode.specs.Decoding.{fitting, fitted, runFrom, withRecord, withEntries, recordsFrom, entriesFrom}
 use Rattle.bytecode.specs.Theorems.{recordRow, entryRow, RecordsInRow, EntriesInRow, AcceptedStores}
-use Rattle.bytecode.proofs.Laws.{fitting-short, run-count}
+use Rattle.bytecode.proofs.Laws.{by-fitting, not-filled, fitting-short, run-count}
 use Rattle.bytecode.proofs.Accepted.{acceptance, accepted-records, accepted-entries}
 
 sets-more : (ws vs l : List ℕ) (i : ℕ) → sets (sets l i ws) (i + length ws) vs ≡ sets l i (ws ++ vs)
@@ -59,7 +56,7 @@ pub record-words : (ls : Lines) (k m k′ m′ : ℕ) → runFrom k m ls ≡ run
 unfolding runFrom recordRow listOf
 record-words (Lines.line l rest) k m k′ m′ e = omega (arith, record-words rest (k + 1) (m + entriesOf (l .instruction)) k′ m′ e)
 record-words Lines.end k m k′ m′ e = let same : k ≡ k′ = cc in omega arith
-record-words (Lines.stop n p) k m k′ m′ e = absurd (let z : _≡_ {A = ℕ} 0 1 = cc in omega arith)
+record-words (Lines.stop n p) k m k′ m′ e = absurd (not-filled e)
 
 pub row-words : (code : List ℕ) (ls : Lines) (k m k′ m′ : ℕ) → runFrom k m ls ≡ run.Filled k′ m′ → m * entryWords + length (entryRow code (listOf ls)) ≡ m′ * entryWords
 unfolding runFrom entryRow listOf
@@ -73,28 +70,18 @@ row-words code (Lines.line l rest) k m k′ m′ e =
       all-entries code (l .instruction),
     )
 row-words code Lines.end k m k′ m′ e = let same : m ≡ m′ = cc in omega arith
-row-words code (Lines.stop n p) k m k′ m′ e = absurd (let z : _≡_ {A = ℕ} 0 1 = cc in omega arith)
+row-words code (Lines.stop n p) k m k′ m′ e = absurd (not-filled e)
 
 -- Entries that fit are no more than the room for them
-pub run-entries : (ls : Lines) (k m records entries k′ m′ : ℕ) → runFrom k m (fitting records entries ls) ≡ run.Filled k′ m′ → m′ ≤ m + entries
-unfolding fitting runFrom
-run-entries (Lines.line l rest) k m records entries k′ m′ e =
-    go (leb (entriesOf (l .instruction)) entries) refl records e (λ left. run-entries rest (k + 1) (m + entriesOf (l .instruction)) left (entries - entriesOf (l .instruction)) k′ m′)
-  where
-    fit : Bool → ℕ → Lines
-    fit t n = elim t [ true ↦ elim n [ suc left ↦ Lines.line l (fitting left (entries - entriesOf (l .instruction)) rest) | zero ↦ Lines.stop 15 (l .at) ] | false ↦ Lines.stop 14 (l .at) ]
-
-    go :
-        (t : Bool) → leb (entriesOf (l .instruction)) entries ≡ t → (n : ℕ) → runFrom k m (fit t n) ≡ run.Filled k′ m′
-        → ((left : ℕ) → runFrom (k + 1) (m + entriesOf (l .instruction)) (fitting left (entries - entriesOf (l .instruction)) rest) ≡ run.Filled k′ m′ → m′ ≤ m + entriesOf (l .instruction) + (entries - entriesOf (l .instruction)))
-        → m′ ≤ m + entries
-    go true q (suc n) e h =
-        let room : entriesOf (l .instruction) ≤ entries = leb-true _ _ q in
-        omega (arith, h n e)
-    go true q zero e h = absurd (let z : _≡_ {A = ℕ} 0 1 = cc in omega arith)
-    go false q n e h = absurd (let z : _≡_ {A = ℕ} 0 1 = cc in omega arith)
-run-entries Lines.end k m records entries k′ m′ e = let same : m ≡ m′ = cc in omega arith
-run-entries (Lines.stop n p) k m records entries k′ m′ e = absurd (let z : _≡_ {A = ℕ} 0 1 = cc in omega arith)
+pub run-entries : (ls : Lines) (records entries k m k′ m′ : ℕ) → runFrom k m (fitting records entries ls) ≡ run.Filled k′ m′ → m′ ≤ m + entries
+unfolding runFrom
+run-entries =
+    by-fitting (λ records entries ls fit. (k m k′ m′ : ℕ) → runFrom k m fit ≡ run.Filled k′ m′ → m′ ≤ m + entries)
+    (λ l rest fit records entries room h k m k′ m′ e. omega (arith, h (k + 1) (m + entriesOf (l .instruction)) k′ m′ e))
+    (λ l rest records entries k m k′ m′ e. absurd (not-filled e))
+    (λ l rest entries k m k′ m′ e. absurd (not-filled e))
+    (λ records entries k m k′ m′ e. let same : m ≡ m′ = cc in omega arith)
+    (λ records entries n p k m k′ m′ e. absurd (not-filled e))
 
 -- words at the front of a store
 at-front : (words store : List ℕ) (n : ℕ) → length words ≡ n → n ≤ length store → sets store 0 words ≡ words ++ drop n store
@@ -109,7 +96,7 @@ accepted-stores code pool records entries k m e =
     let fit = ap (runFrom 0 0) (a .all-fit) ∙ a .filled in
     let some = fitting-short (linesOf code pool) (recordRoom records) (entryRoom entries) in
     let number = run-count (fitted code pool records entries) 0 0 k m fit in
-    let few = run-entries (linesOf code pool) 0 0 (recordRoom records) (entryRoom entries) k m fit in (
+    let few = run-entries (linesOf code pool) (recordRoom records) (entryRoom entries) 0 0 k m fit in (
       accepted-records code pool records entries k m e
           ∙ records-in-row (linesOf code pool) 0 0 records
           ∙ at-front (recordRow 0 (listOf (linesOf code pool))) records (k * recordWords) (omega (arith, record-words (linesOf code pool) 0 0 k m (a .filled))) (omega (arith, some, number)),

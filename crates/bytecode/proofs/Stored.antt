@@ -1,13 +1,12 @@
 -- The stores say what the lines say: once lines are stored, the words of the records and entries tell their jumps.
-use Prim.Native.Nat.{ℕ, zero, suc, _+_, _-_, _*_, _/_, _≤_, _<_}
-use mathlib.Core.Bool.{Bool, true, false}
+use Prim.Native.Nat.{ℕ, suc, _+_, _-_, _*_, _/_, _≤_, _<_}
+use mathlib.Core.Bool.{true, false}
 use mathlib.Core.List.{List, [], _∷_, map}
 use mathlib.Core.Logic.{⊎-elim}
 use mathlib.Core.Path.{_≡_, refl, sym, ap, ap₂, _∙_, subst}
 use native.Mathlib.Nat.{eq-or-lt-of-le}
 use native.Mathlib.Omega.{arith}
-use borrow.Author.Tests.{ne-eqb, leb-true, leb-false}
-use lib.Dec.{leb}
+use borrow.Author.Tests.{ne-eqb}
 use lib.ListN.{length}
 use lib.Seq.{length-sets}
 use Rattle.laws.specs.Listed.{listed}
@@ -35,7 +34,7 @@ use Rattle.filling.proofs.Entries.{all-entries}
 use Rattle.filling.proofs.Decoded.{table-counted, ordinary-kind}
 use Rattle.bytecode.specs.declared.Run.the-variants as run
 use Rattle.bytecode.specs.Decoding.{fitting, fitted, runFrom, withRecord, withEntries, recordsFrom, entriesFrom, jumpWords, lineJumps, jumpsOf}
-use Rattle.bytecode.proofs.Laws.{fit-line, fit-14, fit-15, fitting-short, run-count, records-before, entries-before, length-records, length-entries}
+use Rattle.bytecode.proofs.Laws.{by-fitting, not-filled, fitting-short, run-count, records-before, entries-before, length-records, length-entries}
 
 -- The records from index k on are those of the lines, which start at an offset or later.
 pub record Holds (code : List ℕ) (k at : ℕ) (lines : List Line) (records entries : List ℕ) : Type 0 where
@@ -142,50 +141,33 @@ module _ (code pool : List ℕ) where
         one-more code k l (listOf after) _ entries-after own record-here (record-offset (l .at .0) m (l .instruction)) (omega (arith, within .longer)) jumps-here
         (stored-held code pool (l .at) (l .next) m entries-after (l .instruction) stands (omega (arith, same-room, has-entries))) rest
 
-  never : {n : ℕ} {p : CodeOffset} {k m : ℕ} → run.Refused n p ≡ run.Filled k m → ⊥
-  never e = let z : _≡_ {A = ℕ} 0 1 = cc in omega arith
-
   -- all lines that fit, where the rest of them are stored
-  pub stored :
-      (ls : Lines) (at : CodeOffset) (k m free-records free-entries : ℕ) (records entries : List ℕ) {k′ m′ : ℕ}
+  abbrev AllStored : ℕ → ℕ → Lines → Lines → Type 0
+  AllStored free-records free-entries ls fit =
+      (at : CodeOffset) (k m : ℕ) (records entries : List ℕ) (k′ m′ : ℕ)
       → Follow code pool at ls → k + free-records ≡ recordRoom records → m + free-entries ≡ entryRoom entries
-      → runFrom k m (fitting free-records free-entries ls) ≡ run.Filled k′ m′
-      → Stores k m at records entries (fitting free-records free-entries ls)
-  unfolding fitting runFrom recordsFrom entriesFrom listOf listed
-  stored (Lines.line l rest) at k m zero free-entries records entries f r e filled = go (leb (entriesOf (l .instruction)) free-entries) refl
-    where
-      go : (t : Bool) → leb (entriesOf (l .instruction)) free-entries ≡ t → Stores k m at records entries (fitting 0 free-entries (Lines.line l rest))
-      go true q = absurd (never (ap (runFrom k m) (sym (fit-15 l rest free-entries (leb-true _ _ q))) ∙ filled))
-      go false q = absurd (never (ap (runFrom k m) (sym (fit-14 l rest free-entries 0 (leb-false _ _ q))) ∙ filled))
-  stored (Lines.line l rest) at k m (suc free-records) free-entries records entries {k′ = k′} {m′ = m′} f r e filled =
-      go (leb (entriesOf (l .instruction)) free-entries) refl
-      (stored rest (l .next) (k + 1) (m + entriesOf (l .instruction)) free-records (free-entries - entriesOf (l .instruction)) (withRecord k m l records) (withEntries code m l entries) (f .3))
-    where
-      after : Lines
-      after = fitting free-records (free-entries - entriesOf (l .instruction)) rest
+      → runFrom k m fit ≡ run.Filled k′ m′ → Stores k m at records entries fit
 
-      kept-records : length (withRecord k m l records) ≡ length records
-      kept-records = length-sets records (k * recordWords) (wordsOf (recordOf (l .at .0) m (l .instruction)))
+  stored-one :
+      (l : Line) (rest fit : Lines) (free-records free-entries : ℕ) → entriesOf (l .instruction) ≤ free-entries
+      → AllStored free-records (free-entries - entriesOf (l .instruction)) rest fit → AllStored (suc free-records) free-entries (Lines.line l rest) (Lines.line l fit)
+  unfolding runFrom
+  stored-one l rest fit free-records free-entries room h at k m records entries k′ m′ f r e filled =
+      let kept-records = length-sets records (k * recordWords) (wordsOf (recordOf (l .at .0) m (l .instruction))) in
+      let kept-entries = length-sets entries (m * entryWords) (allEntryWords (entriesIn code (l .instruction))) in
+      subst (λ (a : CodeOffset). Stores k m a records entries (Lines.line l fit)) (f .0)
+      (stored-line l k m records entries fit (ap (stepOf code pool) (f .0) ∙ f .2) (omega (arith, r)) (omega (arith, e))
+      (h (l .next) (k + 1) (m + entriesOf (l .instruction)) (withRecord k m l records) (withEntries code m l entries) k′ m′ (f .3) (omega (arith, r, kept-records)) (omega (arith, e, kept-entries)) filled))
 
-      kept-entries : length (withEntries code m l entries) ≡ length entries
-      kept-entries = length-sets entries (m * entryWords) (allEntryWords (entriesIn code (l .instruction)))
-
-      go :
-          (t : Bool) → leb (entriesOf (l .instruction)) free-entries ≡ t
-          → (k + 1 + free-records ≡ recordRoom (withRecord k m l records) → m + entriesOf (l .instruction) + (free-entries - entriesOf (l .instruction)) ≡ entryRoom (withEntries code m l entries)
-          → runFrom (k + 1) (m + entriesOf (l .instruction)) after ≡ run.Filled k′ m′
-          → Stores (k + 1) (m + entriesOf (l .instruction)) (l .next) (withRecord k m l records) (withEntries code m l entries) after)
-          → Stores k m at records entries (fitting (suc free-records) free-entries (Lines.line l rest))
-      go true q rest-stored =
-          let room : entriesOf (l .instruction) ≤ free-entries = leb-true _ _ q in
-          let fits = fit-line l rest free-entries free-records room in
-          subst (Stores k m at records entries) (sym fits)
-          (subst (λ (a : CodeOffset). Stores k m a records entries (Lines.line l after)) (f .0)
-          (stored-line l k m records entries after (ap (stepOf code pool) (f .0) ∙ f .2) (omega (arith, r)) (omega (arith, e))
-          (rest-stored (omega (arith, r, kept-records)) (omega (arith, e, kept-entries)) (ap (runFrom k m) (sym fits) ∙ filled))))
-      go false q rest-stored = absurd (never (ap (runFrom k m) (sym (fit-14 l rest free-entries (suc free-records) (leb-false _ _ q))) ∙ filled))
-  stored Lines.end at k m free-records free-entries records entries f r e filled = record { jumps = refl; held = λ i a b. absurd (omega arith); above = λ i a b. absurd (omega arith); rising = λ i j a lt b. absurd (omega arith) }
-  stored (Lines.stop n p) at k m free-records free-entries records entries f r e filled = absurd (never filled)
+  stored : (ls : Lines) (free-records free-entries : ℕ) → AllStored free-records free-entries ls (fitting free-records free-entries ls)
+  unfolding runFrom listOf listed
+  stored =
+      by-fitting AllStored stored-one
+      (λ l rest free-records free-entries at k m records entries k′ m′ f r e filled. absurd (not-filled filled))
+      (λ l rest free-entries at k m records entries k′ m′ f r e filled. absurd (not-filled filled))
+      (λ free-records free-entries at k m records entries k′ m′ f r e filled.
+      record { jumps = refl; held = λ i a b. absurd (omega arith); above = λ i a b. absurd (omega arith); rising = λ i j a lt b. absurd (omega arith) })
+      (λ free-records free-entries n p at k m records entries k′ m′ f r e filled. absurd (not-filled filled))
 
 -- What a run that fills the stores leaves in them
 module _ (code pool records entries : List ℕ) {k m : ℕ} (filled : runFrom 0 0 (fitted code pool records entries) ≡ run.Filled k m) where
@@ -200,7 +182,7 @@ module _ (code pool records entries : List ℕ) {k m : ℕ} (filled : runFrom 0 
 
   holds : Holds code 0 0 (listOf (fitted code pool records entries)) records-filled entries-filled
   holds =
-      stored code pool (linesOf code pool) (record { 0 = 0 }) 0 0 (recordRoom records) (entryRoom entries) records entries
+      stored code pool (linesOf code pool) (recordRoom records) (entryRoom entries) (record { 0 = 0 }) 0 0 records entries k m
       (lines-exactly code pool (linesOf code pool) .0 refl) (omega arith) (omega arith) filled
 
   pub filled-sorted : Sorted records-filled k

@@ -6,7 +6,6 @@ use mathlib.Core.List.{List, [], _∷_, map}
 use lib.Dec.{leb}
 use lib.ListN.{length, replicate}
 use lib.Seq.{sets}
-use Rattle.read.specs.declared.CodeOffset.{CodeOffset}
 use Rattle.ordinary.specs.declared.Instruction.{Instruction}
 use Rattle.ordinary.specs.declared.Instruction.the-variants as instruction
 use Rattle.instruction.specs.Theorems.{entriesOf}

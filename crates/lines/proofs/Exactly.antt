@@ -12,7 +12,7 @@ use Rattle.ordinary.specs.declared.Step.{Step}
 use Rattle.ordinary.specs.declared.Step.the-variants as step
 use Rattle.instruction.specs.Steps.{stepOf}
 use Rattle.instruction.proofs.Exactly.{step-within}
-use Rattle.lines.specs.Lines.{Line, Lines, linesFrom}
+use Rattle.lines.specs.Lines.{Lines, linesFrom}
 use Rattle.lines.specs.Theorems.{Follow, LinesExactly}
 use Rattle.lines.proofs.Laws.{lines-more, lines-stop, lines-end}
 

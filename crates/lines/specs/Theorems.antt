@@ -11,7 +11,7 @@ use Rattle.ordinary.specs.declared.Instruction.{Instruction}
 use Rattle.ordinary.specs.declared.Step.the-variants as step
 use Rattle.instruction.specs.Steps.{stepOf}
 use Rattle.instruction.specs.Names.{namesAt}
-use Rattle.lines.specs.Lines.{Line, Lines, linesOf}
+use Rattle.lines.specs.Lines.{Lines, linesOf}
 
 -- The lines follow one another from an offset on: each is what stands in the code where the one before it ends. They end
 -- exactly with the code, or where the first refusal is

@@ -1,8 +1,8 @@
 -- Each kind of answer of `decode` exactly when.
-use Prim.Native.Nat.{ℕ, zero, suc, _+_, _-_, _≤_, _<_}
+use Prim.Native.Nat.{ℕ, zero, suc, _+_, _-_, _≤_}
 use mathlib.Core.Bool.{Bool, true, false}
-use mathlib.Core.List.{List, [], _∷_, map, List·Memᴰ, Memᴰ·map, Memᴰ·of-map}
-use mathlib.Core.Logic.{_↔_, _⊎_, inl, inr, ⊎-elim}
+use mathlib.Core.List.{List, Memᴰ·map, Memᴰ·of-map}
+use mathlib.Core.Logic.{_↔_, _⊎_, ⊎-elim}
 use mathlib.Core.Path.{_≡_, refl, sym, ap, ap₂, _∙_, subst}
 use native.Mathlib.Omega.{arith}
 use borrow.Author.Tests.{leb-true}
@@ -11,7 +11,7 @@ use lib.ListN.{length}
 use Rattle.read.specs.declared.CodeOffset.{CodeOffset}
 use Rattle.instruction.specs.Theorems.{entriesOf}
 use Rattle.instruction.proofs.Refusals.{step-refuses}
-use Rattle.lines.specs.Lines.{Line, Lines, linesOf, listOf}
+use Rattle.lines.specs.Lines.{Lines, linesOf, listOf}
 use Rattle.lines.specs.Theorems.{Follow}
 use Rattle.lines.proofs.Exactly.{lines-exactly}
 use Rattle.records.specs.Records.{recordRoom, entryRoom}
@@ -24,7 +24,7 @@ use Rattle.bytecode.specs.declared.Run.{Run}
 use Rattle.bytecode.specs.declared.Run.the-variants as run
 use Rattle.bytecode.specs.declared.Decoded.the-variants as decoded
 use Rattle.bytecode.specs.Decoding.{codeLimit, poolLimit, fitting, fitted, runFrom, lineJumps, jumpsOf, judged, decoding}
-use Rattle.bytecode.proofs.Laws.{fit-line, fitting-short, run-count}
+use Rattle.bytecode.proofs.Laws.{fit-line, by-fitting, fitting-short, run-count}
 use Rattle.bytecode.proofs.Deciding.{within}
 use Rattle.bytecode.proofs.Accepted.{filled-fits, acceptance}
 use Rattle.bytecode.proofs.Rows.{run-entries}
@@ -84,7 +84,7 @@ module _ (code pool records entries : List ℕ) (k m : ℕ) where
         instructions = omega (arith, number, ap (λ (ls : Lines). length (listOf ls)) fit);
         switch-entries = omega (arith, all .1);
         record-room = omega (arith, few, number);
-        entry-room = omega (arith, run-entries (linesOf code pool) 0 0 (recordRoom records) (entryRoom entries) k m e);
+        entry-room = omega (arith, run-entries (linesOf code pool) (recordRoom records) (entryRoom entries) 0 0 k m e);
       }
 
   module _ (a : AllDecoded code pool records entries k m) where
@@ -115,26 +115,22 @@ accepted-exactly code pool records entries k m = (
 abbrev OfJump : ℕ → Type 0
 OfJump n = (n ≡ 12) ⊎ (n ≡ 13)
 
-module _ (code pool : List ℕ) where
-  not-of-run : (ls : Lines) (at : CodeOffset) (k m records entries n : ℕ) (p : CodeOffset) → Follow code pool at ls → runFrom k m (fitting records entries ls) ≡ run.Refused n p → OfJump n → ⊥
-  unfolding fitting runFrom
-  not-of-run (Lines.line l rest) at k m records entries n p f e j =
-      go (leb (entriesOf (l .instruction)) entries) records e (λ left. not-of-run rest (l .next) (k + 1) (m + entriesOf (l .instruction)) left (entries - entriesOf (l .instruction)) n p (f .3))
-    where
-      fit : Bool → ℕ → Lines
-      fit t free = elim t [ true ↦ elim free [ suc left ↦ Lines.line l (fitting left (entries - entriesOf (l .instruction)) rest) | zero ↦ Lines.stop 15 (l .at) ] | false ↦ Lines.stop 14 (l .at) ]
+not-of-room : {n : ℕ} → OfJump n → (n ≡ 14 → ⊥) × (n ≡ 15 → ⊥)
+not-of-room j = (λ e. ⊎-elim (λ q. omega arith) (λ q. omega arith) j, λ e. ⊎-elim (λ q. omega arith) (λ q. omega arith) j)
 
-      go :
-          (t : Bool) (free : ℕ) → runFrom k m (fit t free) ≡ run.Refused n p
-          → ((left : ℕ) → runFrom (k + 1) (m + entriesOf (l .instruction)) (fitting left (entries - entriesOf (l .instruction)) rest) ≡ run.Refused n p → OfJump n → ⊥) → ⊥
-      go true (suc free) e h = h free e j
-      go true zero e h = let same : 15 ≡ n = cc in ⊎-elim (λ q. omega arith) (λ q. omega arith) j
-      go false free e h = let same : 14 ≡ n = cc in ⊎-elim (λ q. omega arith) (λ q. omega arith) j
-  not-of-run Lines.end at k m records entries n p f e j = let z : _≡_ {A = ℕ} 0 1 = cc in omega arith
-  not-of-run (Lines.stop n′ p′) at k m records entries n p f e j =
+module _ (code pool : List ℕ) where
+  not-of-run : (ls : Lines) (records entries : ℕ) (at : CodeOffset) (k m n : ℕ) (p : CodeOffset) → Follow code pool at ls → runFrom k m (fitting records entries ls) ≡ run.Refused n p → OfJump n → ⊥
+  unfolding runFrom
+  not-of-run =
+      by-fitting (λ records entries ls fit. (at : CodeOffset) (k m n : ℕ) (p : CodeOffset) → Follow code pool at ls → runFrom k m fit ≡ run.Refused n p → OfJump n → ⊥)
+      (λ l rest fit records entries room h at k m n p f e j. h (l .next) (k + 1) (m + entriesOf (l .instruction)) n p (f .3) e j)
+      (λ l rest records entries at k m n p f e j. not-of-room j .0 cc)
+      (λ l rest entries at k m n p f e j. not-of-room j .1 cc)
+      (λ records entries at k m n p f e j. let z : _≡_ {A = ℕ} 0 1 = cc in omega arith)
+      (λ records entries n′ p′ at k m n p f e j.
       let same : n′ ≡ n = cc in
       let number = step-refuses code pool at n′ p′ (f .1) in
-      ⊎-elim (λ q. omega (arith, number)) (λ q. omega (arith, number)) j
+      ⊎-elim (λ q. omega (arith, number)) (λ q. omega (arith, number)) j)
 
 module _ (code pool records entries : List ℕ) (n : ℕ) (place : CodeOffset) (second : ℕ) where
   abbrev Failing : Type 0
@@ -153,7 +149,7 @@ module _ (code pool records entries : List ℕ) (n : ℕ) (place : CodeOffset) (
         )
     of-run (run.Refused n′ p′) e v b q =
         let same : run.Refused n′ p′ ≡ run.Refused n place = cc in
-        absurd (not-of-run code pool (linesOf code pool) (record { 0 = 0 }) 0 0 (recordRoom records) (entryRoom entries) n place (lines-exactly code pool (linesOf code pool) .0 refl) (e ∙ same) j)
+        absurd (not-of-run code pool (linesOf code pool) (recordRoom records) (entryRoom entries) (record { 0 = 0 }) 0 0 n place (lines-exactly code pool (linesOf code pool) .0 refl) (e ∙ same) j)
 
   refused-failing : OfJump n → decoding code pool records entries ≡ decoded.Refused n place second → Failing
   unfolding decoding

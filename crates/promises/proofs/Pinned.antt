@@ -1,8 +1,7 @@
 -- The law of determinacy, cited for each entry.
 use mathlib.Core.List.{List}
-use mathlib.Core.Path.{_≡_, sym, ap, ap₂, _∙_}
+use mathlib.Core.Path.{ap₂}
 use Prim.Native.Nat.{ℕ}
-use Rattle.laws.specs.Pinned.{Pinned}
 use Rattle.laws.proofs.Pinned.{exactly}
 use Rattle.promises.specs.Pinned.{AnswerWith, AnswerWithTwo, EntriesPinned}
 

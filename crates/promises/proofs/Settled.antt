@@ -1,6 +1,5 @@
 use mathlib.Core.Path.{refl}
 use Rattle.laws.specs.Bytes.{beginsWith, sameText}
-use Rattle.laws.specs.Listed.{listed}
 use Rattle.class_names.specs.Names.{nameFrom, aloneOf, className}
 use Rattle.descriptors.specs.Texts.{objectOf, typeFrom, fieldFrom, returnFrom, whole as fieldWhole, fieldPrefix}
 use Rattle.methods.specs.Texts.{nextFrom, restFrom, opening, methodReading, within, answerFrom, storeFrom, whole as methodWhole, storeAfter as methodStore}

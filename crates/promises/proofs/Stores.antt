@@ -1,10 +1,9 @@
 -- Of the stores only their room counts.
-use Prim.Native.Nat.{ℕ, zero, suc, _+_, _-_, _*_, _≤_}
+use Prim.Native.Nat.{ℕ, _+_, _-_, _*_, _≤_}
 use mathlib.Core.Bool.{Bool, true, false}
 use mathlib.Core.List.{List, _++_}
-use mathlib.Core.Path.{_≡_, refl, sym, ap, ap₂, _∙_, subst}
+use mathlib.Core.Path.{_≡_, refl, sym, ap, _∙_, subst}
 use native.Mathlib.Omega.{arith}
-use borrow.Author.Tests.{leb-true}
 use lib.Dec.{leb}
 use lib.ListN.{length, take, drop}
 use lib.Seq.{take-at}
@@ -13,7 +12,6 @@ use Rattle.instruction.specs.Theorems.{entriesOf}
 use Rattle.lines.specs.Lines.{Lines, linesOf, listOf}
 use Rattle.records.specs.Records.{recordWords, entryWords, recordRoom, entryRoom}
 use Rattle.jumps.specs.declared.Checked.{Checked}
-use Rattle.jumps.specs.declared.Checked.the-variants as checked
 use Rattle.jumps.specs.Jumps.{check}
 use Rattle.bytecode.specs.declared.Run.{Run}
 use Rattle.bytecode.specs.declared.Run.the-variants as run
@@ -21,7 +19,7 @@ use Rattle.bytecode.specs.declared.Decoded.{Decoded}
 use Rattle.bytecode.specs.declared.Decoded.the-variants as decoded
 use Rattle.bytecode.specs.Decoding.{codeLimit, poolLimit, fitting, fitted, runFrom, jumpsOf, judged, decoding}
 use Rattle.bytecode.specs.Theorems.{recordRow, entryRow}
-use Rattle.bytecode.proofs.Laws.{fitting-short}
+use Rattle.bytecode.proofs.Laws.{by-fitting, fitting-short}
 use Rattle.bytecode.proofs.Accepted.{filled-fits, acceptance}
 use Rattle.bytecode.proofs.Rows.{record-words, row-words, accepted-stores}
 use Rattle.promises.specs.Decode.{entriesIn}
@@ -29,46 +27,26 @@ use Rattle.promises.specs.Stores.{NotForRoom, LargerStores, SameWords}
 use Rattle.promises.proofs.Decode.{all-fit}
 
 -- lines that are not refused for want of room all fit
-fits-unless :
-    (ls : Lines) (records entries k m : ℕ)
-    → ((p : CodeOffset) → runFrom k m (fitting records entries ls) ≡ run.Refused 14 p → ⊥)
-    → ((p : CodeOffset) → runFrom k m (fitting records entries ls) ≡ run.Refused 15 p → ⊥)
-    → fitting records entries ls ≡ ls
-unfolding fitting runFrom
-fits-unless (Lines.line l rest) records entries k m no-14 no-15 =
-    go (leb (entriesOf (l .instruction)) entries) records no-14 no-15 (λ left. fits-unless rest left (entries - entriesOf (l .instruction)) (k + 1) (m + entriesOf (l .instruction)))
-  where
-    after : ℕ → Lines
-    after left = fitting left (entries - entriesOf (l .instruction)) rest
+abbrev Room : ℕ → ℕ → Lines → Type 0
+Room k m fit = (n : ℕ) (p : CodeOffset) → runFrom k m fit ≡ run.Refused n p → (n ≡ 14 → ⊥) × (n ≡ 15 → ⊥)
 
-    fit : Bool → ℕ → Lines
-    fit t free = elim t [ true ↦ elim free [ suc left ↦ Lines.line l (after left) | zero ↦ Lines.stop 15 (l .at) ] | false ↦ Lines.stop 14 (l .at) ]
-
-    go :
-        (t : Bool) (free : ℕ) → ((p : CodeOffset) → runFrom k m (fit t free) ≡ run.Refused 14 p → ⊥) → ((p : CodeOffset) → runFrom k m (fit t free) ≡ run.Refused 15 p → ⊥)
-        → ((left : ℕ) → ((p : CodeOffset) → runFrom (k + 1) (m + entriesOf (l .instruction)) (after left) ≡ run.Refused 14 p → ⊥) → ((p : CodeOffset) → runFrom (k + 1) (m + entriesOf (l .instruction)) (after left) ≡ run.Refused 15 p → ⊥) → after left ≡ rest)
-        → fit t free ≡ Lines.line l rest
-    go true (suc free) a b h = ap (Lines.line l) (h free a b)
-    go true zero a b h = absurd (b (l .at) refl)
-    go false free a b h = absurd (a (l .at) refl)
-fits-unless Lines.end records entries k m no-14 no-15 = refl
-fits-unless (Lines.stop n p) records entries k m no-14 no-15 = refl
+fits-unless : (ls : Lines) (records entries k m : ℕ) → Room k m (fitting records entries ls) → fitting records entries ls ≡ ls
+unfolding runFrom
+fits-unless =
+    by-fitting (λ records entries ls fit. (k m : ℕ) → Room k m fit → fit ≡ ls)
+    (λ l rest fit records entries room h k m r. ap (Lines.line l) (h (k + 1) (m + entriesOf (l .instruction)) r))
+    (λ l rest records entries k m r. absurd (r 14 (l .at) refl .0 refl))
+    (λ l rest entries k m r. absurd (r 15 (l .at) refl .1 refl))
+    (λ records entries k m r. refl)
+    (λ records entries n p k m r. refl)
 
 -- and have no more entries than there is room for
 fitting-few : (ls : Lines) (records entries : ℕ) → entriesIn (listOf (fitting records entries ls)) ≤ entries
-unfolding fitting listOf entriesIn
-fitting-few (Lines.line l rest) records entries = go (leb (entriesOf (l .instruction)) entries) refl records (λ left. fitting-few rest left (entries - entriesOf (l .instruction)))
-  where
-    go :
-        (t : Bool) → leb (entriesOf (l .instruction)) entries ≡ t → (free : ℕ) → ((left : ℕ) → entriesIn (listOf (fitting left (entries - entriesOf (l .instruction)) rest)) ≤ entries - entriesOf (l .instruction))
-        → entriesIn (listOf (elim t [ true ↦ elim free [ suc left ↦ Lines.line l (fitting left (entries - entriesOf (l .instruction)) rest) | zero ↦ Lines.stop 15 (l .at) ] | false ↦ Lines.stop 14 (l .at) ])) ≤ entries
-    go true q (suc left) h =
-        let room : entriesOf (l .instruction) ≤ entries = leb-true _ _ q in
-        omega (arith, h left)
-    go true q zero h = omega arith
-    go false q free h = omega arith
-fitting-few Lines.end records entries = omega arith
-fitting-few (Lines.stop n p) records entries = omega arith
+unfolding listOf entriesIn
+fitting-few =
+    by-fitting (λ records entries ls fit. entriesIn (listOf fit) ≤ entries)
+    (λ l rest fit records entries room h. omega arith)
+    (λ l rest records entries. omega arith) (λ l rest entries. omega arith) (λ records entries. omega arith) (λ records entries n p. omega arith)
 
 -- what fits some room fits any larger
 fits-more : (ls : Lines) (records entries records′ entries′ : ℕ) → records ≤ records′ → entries ≤ entries′ → fitting records entries ls ≡ ls → fitting records′ entries′ ls ≡ ls
@@ -82,8 +60,7 @@ module _ (code pool records entries records′ entries′ : List ℕ) (h : recor
   fits (run.Filled n m) c e room = filled-fits (linesOf code pool) (recordRoom records) (entryRoom entries) 0 0 n m e
   fits (run.Refused n p) c e room =
       fits-unless (linesOf code pool) (recordRoom records) (entryRoom entries) 0 0
-      (λ q f. room .0 (let same : run.Refused n p ≡ run.Refused 14 q = sym e ∙ f in cc))
-      (λ q f. room .1 (let same : run.Refused n p ≡ run.Refused 15 q = sym e ∙ f in cc))
+      (λ n′ p′ f. subst (λ (x : ℕ). (x ≡ 14 → ⊥) × (x ≡ 15 → ⊥)) (let same : run.Refused n p ≡ run.Refused n′ p′ = sym e ∙ f in cc) room)
 
   abbrev answer : List ℕ → List ℕ → Bool → Bool → Decoded
   answer r e c p =

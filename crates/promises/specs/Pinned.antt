@@ -6,7 +6,6 @@ use mathlib.Core.Bool.{Bool, false}
 use mathlib.Core.List.{List}
 use mathlib.Core.Path.{_≡_}
 use lib.ListN.{length, drop, replicate}
-use Rattle.laws.specs.Bytes.{beginsWith}
 use Rattle.laws.specs.Pinned.{Pinned}
 use Rattle.read.specs.declared.CodeOffset.{CodeOffset}
 use Rattle.read.specs.Reads.{readOf}

@@ -1,14 +1,14 @@
 -- What a store holds where something was written, and before it.
 use Prim.Native.Nat.{ℕ, zero, suc, _+_, _*_, _≤_, _<_}
 use mathlib.Core.List.{List, [], _∷_}
-use mathlib.Core.Path.{_≡_, refl, sym, ap, ap₂, _∙_}
+use mathlib.Core.Path.{_≡_, refl, ap, ap₂, _∙_}
 use native.Mathlib.Nat.{add-zero}
 use native.Mathlib.Omega.{arith}
 use lib.ListN.{length, getD, set, length-set}
 use lib.Seq.{sets, getD-set-same, getD-set-other}
 use Rattle.laws.specs.Listed.{listed}
 use Rattle.records.specs.declared.SwitchEntry.{SwitchEntry}
-use Rattle.records.specs.Records.{recordWords, entryWords, entryRoom, index, wordsOf, entryWordsOf, entryAt, allEntryWords}
+use Rattle.records.specs.Records.{recordWords, entryWords, entryRoom, index, wordsOf, entryAt, allEntryWords}
 use Rattle.records.specs.Theorems.{RecordThere, RecordBefore, EntriesThere, EntryBefore}
 
 word-before : (words store : List ℕ) (i j : ℕ) → j < i → getD (sets store i words) j 0 ≡ getD store j 0
