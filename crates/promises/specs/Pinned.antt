@@ -3,24 +3,38 @@
 -- One law, proved in proofs/Pinned.antt as `entries-pinned` for each.
 use Prim.Native.Nat.{ℕ, _-_}
 use mathlib.Core.Bool.{Bool, false}
-use mathlib.Core.List.{List}
+use mathlib.Core.List.{List, []}
 use mathlib.Core.Path.{_≡_}
 use lib.ListN.{length, drop, replicate}
+use Rattle.laws.specs.Bytes.{beginsWith}
 use Rattle.laws.specs.Pinned.{Pinned}
 use Rattle.read.specs.declared.CodeOffset.{CodeOffset}
+use Rattle.read.specs.declared.Read.{Read}
 use Rattle.read.specs.Reads.{readOf}
 use Rattle.names.specs.Names.{isUnqualifiedName, isMethodName, isBinaryName, isModuleName}
 use Rattle.class_names.specs.Names.{nameFrom, className, isClassName}
 use Rattle.descriptors.specs.declared.FieldDescriptor.{FieldDescriptor}
-use Rattle.descriptors.specs.Texts.{fieldPrefix, fieldText, returnPrefix, returnText, arrayText, isFieldText, isReturnText, isArrayText}
+use Rattle.descriptors.specs.Texts.{base as baseType, object as objectType, void as voidType, fieldPrefix, fieldText, returnPrefix, returnText, arrayText, isFieldText, isReturnText, isArrayText}
 use Rattle.methods.specs.Texts.{roomOf, methodPrefix, methodText, methodCheck, prefixStore, textStore, isMethodText}
-use Rattle.printing.specs.Printing.{printField, printReturn, fieldOutput, returnOutput}
+use Rattle.printing.specs.Printing.{partLength, isFieldPart, isReturnPart, roomRefusal, printField, printReturn, fieldOutput, returnOutput}
 use Rattle.method_printing.specs.Printing.{printMethod, methodOutput}
 use Rattle.identifier.specs.Identifier.{identifying, identifierOutput}
 use Rattle.pool.specs.declared.Kinds.{Kinds}
+use Rattle.pool.specs.Tags.{allowsTag}
 use Rattle.pool.specs.Entries.{entryAt, entryOfKind}
+use Rattle.opcodes.specs.declared.Follow.{Follow}
+use Rattle.opcodes.specs.Formats.{numbers}
+use Rattle.opcodes.specs.Operands.{followOf, incrementOf}
+use Rattle.opcodes.specs.Wide.{wideFormOf}
+use Rattle.opcodes.specs.Kinds.{kindOf}
+use Rattle.operands.specs.Checks.{signedRead, indexRead, zeroRead, arrayTagRead}
+use Rattle.ordinary.specs.declared.Instruction.{Instruction}
+use Rattle.ordinary.specs.Ordinary.{operandsFrom, withFirst, indexed, wideStep}
+use Rattle.switches.specs.Switches.{entryCount}
 use Rattle.instruction.specs.Steps.{stepOf}
+use Rattle.instruction.specs.Theorems.{entriesOf}
 use Rattle.lookup.specs.Lookup.{lookupOf}
+use Rattle.filling.specs.Filling.{recordOf}
 use Rattle.bytecode.specs.Decoding.{decoding, recordsAfter, entriesAfter}
 
 -- an answer alone, with the contents of one lent slice afterwards, and with those of two
@@ -70,3 +84,31 @@ pub record EntriesPinned : Type 0 where
   pub print-method : (text parameters : List ℕ) (count : ℕ) (returned : FieldDescriptor) (out : List ℕ) → AnswerWith (printMethod text parameters count returned (length out)) (methodOutput text parameters count returned out)
   pub method-identifier : (name descriptor out : List ℕ) → AnswerWith (identifying name descriptor (length out)) (identifierOutput name descriptor out)
   pub clear : (store : List ℕ) → Answer (replicate {A = ℕ} (length store) 0)
+  -- the parts of an instruction
+  pub left : (code : List ℕ) (at : ℕ) → Answer (length code - at)
+  pub allows-tag : (kinds : Kinds) (tag : ℕ) → Answer (allowsTag kinds tag)
+  pub formats : Answer numbers
+  pub wide-form-of : (byte : ℕ) → Answer (wideFormOf byte)
+  pub kind-of : (byte : ℕ) → Answer (kindOf byte)
+  pub signed-1 : (found : Read) → Answer (signedRead 1 found)
+  pub signed-2 : (found : Read) → Answer (signedRead 2 found)
+  pub signed-4 : (found : Read) → Answer (signedRead 4 found)
+  pub index-read : (pool : List ℕ) (kinds : Kinds) (at : CodeOffset) (found : Read) → Answer (indexRead pool kinds at found)
+  pub zero-read : (at : CodeOffset) (found : Read) → Answer (zeroRead at found)
+  pub array-tag-read : (at : CodeOffset) (found : Read) → Answer (arrayTagRead at found)
+  pub with-first : (kind : ℕ) (first : Read) → Answer (withFirst kind first)
+  pub increment-1 : (code : List ℕ) (kind : ℕ) (at : CodeOffset) → Answer (operandsFrom code [] kind [] (incrementOf 1) at)
+  pub indexed-step : (code : List ℕ) (kind : ℕ) (index : Read) (follow : Follow) → Answer (indexed code kind (followOf follow) index)
+  pub wide-step : (code : List ℕ) (at : CodeOffset) → Answer (wideStep code [] at)
+  pub entry-count : (low high : ℕ) → Answer (entryCount low high)
+  pub entries-of : (i : Instruction) → Answer (entriesOf i)
+  pub record-of : (offset first : ℕ) (i : Instruction) → Answer (recordOf offset first i)
+  -- the parts of a text
+  pub begins-with : (text : List ℕ) (at b : ℕ) → Answer (beginsWith b (drop at text))
+  pub base : (dimensions letter : ℕ) → Answer (baseType dimensions letter)
+  pub object : (dimensions start size : ℕ) → Answer (objectType dimensions start size)
+  pub void : Answer voidType
+  pub is-field-part : (text : List ℕ) (part : FieldDescriptor) → Answer (isFieldPart text part)
+  pub is-return-part : (text : List ℕ) (part : FieldDescriptor) → Answer (isReturnPart text part)
+  pub part-length : (part : FieldDescriptor) → Answer (partLength part)
+  pub room-refusal : (size room : ℕ) → Answer (roomRefusal size room)
