@@ -202,8 +202,8 @@ fn any_records(rng: &mut Rng, i: usize) -> Vec<u32> {
     }
     if count > 0 && rng.one_in(3) {
         let one = rng.below(count.div_ceil(RECORD)) * RECORD;
-        let near = store[one];
-        store[one] = rng.pick(&[0, u32::MAX, near.wrapping_add(1), near.wrapping_sub(1), rng.byte() as u32]);
+        let (near, any) = (store[one], rng.word() as u32);
+        store[one] = rng.pick(&[0, u32::MAX, near.wrapping_add(1), near.wrapping_sub(1), any]);
     }
     store
 }
