@@ -2,8 +2,8 @@
 use std::io::IsTerminal;
 use std::time::{Duration, Instant};
 
-/// At most so many differences are printed; all are counted.
-const SHOWN: u64 = 10;
+/// At most so many differences of a sort are shrunk and printed; all are counted.
+const SHOWN: u64 = 3;
 
 #[derive(Default)]
 pub struct Totals {
@@ -14,15 +14,10 @@ pub struct Totals {
 }
 
 impl Totals {
-    /// A difference that is not on the list of known ones.
-    pub fn unknown(&mut self, what: &str, code: &[u8], ours: &str, other: &str) {
+    /// Counts a difference that is not known; whether it is to be printed.
+    pub fn unknown(&mut self) -> bool {
         self.unknown += 1;
-        if self.unknown <= SHOWN {
-            println!("DIFFERENCE, {what}");
-            println!("  code of {} bytes: {}", code.len(), hex(code));
-            println!("  ours:  {ours}");
-            println!("  other: {other}");
-        }
+        self.unknown <= SHOWN
     }
 
     pub fn add(&mut self, more: &Totals) {
@@ -40,6 +35,20 @@ impl Totals {
         );
         std::process::exit((self.unknown > 0) as i32)
     }
+}
+
+/// A difference, with both answers.
+pub fn difference(what: &str, code: &[u8], ours: &str, other: &str) {
+    println!("DIFFERENCE, {what}");
+    println!("  code of {} bytes: {}", code.len(), hex(code));
+    println!("  ours:  {ours}");
+    println!("  other: {other}");
+}
+
+/// The first words of both stores.
+pub fn words(records: &[u32], entries: &[u32]) -> String {
+    let first = |words: &[u32]| format!("{:x?}", &words[..words.len().min(24)]);
+    format!("records {} entries {}", first(records), first(entries))
 }
 
 /// How often each refusal was given.

@@ -4,7 +4,7 @@ use cafebabe::visible::Pool;
 use compare::codes::{large, small, Tagged};
 use compare::crate_side::{self, Indices};
 use compare::pools::{self, MadePool};
-use compare::report::{number, shrunk, Progress, Refusals, Totals};
+use compare::report::{difference, number, shrunk, words, Progress, Refusals, Totals};
 use compare::rng::Rng;
 use compare::station::{self, Answer};
 use compare::{edges, ENTRY, RECORD};
@@ -31,22 +31,27 @@ impl Stores {
         }
     }
 
-    /// What differs from the crate after an acceptance. The used words are old again afterwards.
-    fn difference(&mut self, answer: Answer, decoded: &ByteCode) -> Option<&'static str> {
+    /// What differs from the crate after an acceptance, with both sides. The used words are old again afterwards.
+    fn difference(&mut self, answer: Answer, decoded: &ByteCode) -> Option<Verdict> {
         crate_side::stores(decoded, Indices::Told, &mut self.crate_records, &mut self.crate_entries);
         let (records, entries) = (self.crate_records.len(), self.crate_entries.len());
-        if answer != Answer::accepted((records / RECORD) as u64, (entries / ENTRY) as u64) {
-            return Some("counts");
+        let counts = Answer::accepted((records / RECORD) as u64, (entries / ENTRY) as u64);
+        let both = |what| {
+            let ours = format!("{answer:?} {}", words(&self.records, &self.entries));
+            Verdict::Different(what, ours, words(&self.crate_records, &self.crate_entries))
+        };
+        if answer != counts {
+            return Some(both("counts"));
         }
-        let same =
-            self.records[..records] == self.crate_records[..] && self.entries[..entries] == self.crate_entries[..];
+        if self.records[..records] != self.crate_records || self.entries[..entries] != self.crate_entries {
+            return Some(both("words of the stores"));
+        }
+        if self.records[records..].iter().chain(&self.entries[entries..]).any(|w| *w != OLD) {
+            return Some(both("a word past the used ones"));
+        }
         self.records[..records].fill(OLD);
         self.entries[..entries].fill(OLD);
-        if !same {
-            return Some("words of the stores");
-        }
-        let untouched = self.records.iter().chain(&self.entries).all(|w| *w == OLD);
-        (!untouched).then_some("a word past the used ones")
+        None
     }
 
     /// Whether a refusal left every word 0. They are old again afterwards.
@@ -117,10 +122,10 @@ fn judge<'a>(code: &'a [u8], pool: &Pool<'a>, tags: &[u8], stores: &mut Stores, 
             let offsets = which.offsets(code.len());
             match lookups(&stores.records, answer, &decoded, &offsets) {
                 Err(verdict) => verdict,
-                Ok(hits) => match stores.difference(answer, &decoded) {
-                    Some(what) => different(what, format!("{} instructions", decoded.opcodes.len())),
-                    None => Verdict::Accepted { answer, lookups: offsets.len() as u64, hits },
-                },
+                Ok(hits) => {
+                    let same = Verdict::Accepted { answer, lookups: offsets.len() as u64, hits };
+                    stores.difference(answer, &decoded).unwrap_or(same)
+                }
             }
         }
         (0, Err(error)) => different("acceptance", format!("refused: {error}")),
@@ -190,14 +195,18 @@ impl<'a> Section<'a> {
     }
 
     fn report(&mut self, code: &[u8]) {
+        // What a difference left in the stores must not show again.
         self.stores = Stores::new(self.stores.entries.len() / ENTRY);
+        if !self.totals.unknown() {
+            return;
+        }
         let differs = |code: &[u8]| matches!(judge_alone(code, self.made, self.which), Verdict::Different(..));
         let small = shrunk(code, differs);
-        if let Verdict::Different(what, ours, theirs) = judge_alone(&small, self.made, self.which) {
-            let what = format!("{what}, pool of {}", self.made.name);
-            self.totals.unknown(&what, &small, &ours, &theirs);
-        } else {
-            self.totals.unknown("only after other codes", code, "not the same twice", "");
+        match judge_alone(&small, self.made, self.which) {
+            Verdict::Different(what, ours, theirs) => {
+                difference(&format!("{what}, pool of {}", self.made.name), &small, &ours, &theirs)
+            }
+            _ => difference("not the same twice", code, "", ""),
         }
     }
 

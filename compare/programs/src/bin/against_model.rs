@@ -1,7 +1,7 @@
 //! Our whole answers and whole stores against the model of document 01, at every small capacity of the stores.
 //! usage: against_model [SEED [COUNT]]
 use compare::codes::{build, damage, Shape, Tagged};
-use compare::report::{number, shrunk, Progress, Refusals, Totals};
+use compare::report::{difference, number, shrunk, words, Progress, Refusals, Totals};
 use compare::rng::Rng;
 use compare::station::{self, Answer};
 use compare::{edges, model, pools, ENTRY, RECORD};
@@ -26,6 +26,18 @@ fn paper(code: &[u8], pool: &[u8], prepared: &model::Prepared, room: Room) -> Ou
     (model::decode(code, pool, prepared, &mut records, &mut entries), records, entries)
 }
 
+fn report(code: &[u8], pool: &[u8], room: Room) {
+    let both = |code: &[u8]| (ours(code, pool, room), paper(code, pool, &model::prepare(code, pool), room));
+    let small = shrunk(code, |code| {
+        let (ours, paper) = both(code);
+        ours != paper
+    });
+    let (ours, paper) = both(&small);
+    let shown = |o: &Outcome| format!("{:?} {}", o.0, words(&o.1, &o.2));
+    let what = format!("stores of {} and {} words, pool {:?}", room.0, room.1, &pool[..pool.len().min(40)]);
+    difference(&what, &small, &shown(&ours), &shown(&paper));
+}
+
 /// Codes of one sort.
 struct Section {
     sort: String,
@@ -47,21 +59,9 @@ impl Section {
             0 => self.accepted += 1,
             number => self.refusals.count(number),
         }
-        if ours(code, pool, room) != want {
-            self.report(code, pool, room);
+        if ours(code, pool, room) != want && self.totals.unknown() {
+            report(code, pool, room);
         }
-    }
-
-    fn report(&mut self, code: &[u8], pool: &[u8], room: Room) {
-        let both = |code: &[u8]| (ours(code, pool, room), paper(code, pool, &model::prepare(code, pool), room));
-        let small = shrunk(code, |code| {
-            let (ours, paper) = both(code);
-            ours != paper
-        });
-        let (ours, paper) = both(&small);
-        let shown = |o: &Outcome| format!("{:?} records {:x?} entries {:x?}", o.0, first(&o.1), first(&o.2));
-        let what = format!("stores of {} and {} words, pool {:?}", room.0, room.1, &pool[..pool.len().min(40)]);
-        self.totals.unknown(&what, &small, &shown(&ours), &shown(&paper));
     }
 
     /// A code at every capacity of both stores up to one more than it needs, each with a part of a record or entry over.
@@ -94,10 +94,6 @@ impl Section {
         println!("  differences: {} unknown", self.totals.unknown);
         all.add(&self.totals);
     }
-}
-
-fn first(words: &[u32]) -> &[u32] {
-    &words[..words.len().min(24)]
 }
 
 /// Every tag of document 01 and some that are none.
@@ -233,9 +229,9 @@ fn lookups(seed: u64, count: usize, all: &mut Totals) {
             totals.lookups += 1;
             found += paper.next;
             refused += (paper.number != 0) as u64;
-            if ours != paper {
-                let what = format!("lookup of {offset} in {records} records of {:?}", first(&store));
-                totals.unknown(&what, &[], &format!("{ours:?}"), &format!("{paper:?}"));
+            if ours != paper && totals.unknown() {
+                let what = format!("lookup of {offset} in {records} records: {}", words(&store, &[]));
+                difference(&what, &[], &format!("{ours:?}"), &format!("{paper:?}"));
             }
         }
     }

@@ -2,7 +2,7 @@
 use cafebabe::visible::Pool;
 use compare::crate_side::{self, Indices};
 use compare::model::is_pool_user;
-use compare::report::{Progress, Refusals, Totals};
+use compare::report::{self, Progress, Refusals, Totals};
 use compare::station::{self, Answer};
 use compare::{ENTRY, RECORD};
 use std::hint::black_box;
@@ -183,7 +183,9 @@ fn compare(classes: &[Class]) -> Counts {
             counts.bytes += code.len();
             if let Some(theirs) = difference(code, &class.tags, &pool, &mut stores, &mut counts) {
                 let ours = station::decode(code, &class.tags, &mut stores.records, &mut stores.entries);
-                counts.totals.unknown("a real method", code, &format!("{ours:?}"), &theirs);
+                if counts.totals.unknown() {
+                    report::difference("a real method", code, &format!("{ours:?}"), &theirs);
+                }
                 stores = Stores::new();
             }
         }

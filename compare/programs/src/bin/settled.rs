@@ -1,5 +1,5 @@
 //! The settled examples of document 01 for code, with whole stores.
-use compare::report::{unhex, Totals};
+use compare::report::{difference, unhex, words, Totals};
 use compare::station::{decode, lookup, Answer};
 use compare::{ENTRY, RECORD};
 
@@ -102,13 +102,10 @@ fn main() {
             let answer = decode(&example.code, &example.pool, &mut records, &mut entries);
             totals.cases += 1;
             let found = lookups(&records, answer.first, &mut totals);
-            if (answer, records, entries) != want || !found {
-                totals.unknown(
-                    example.name,
-                    &example.code,
-                    &format!("{answer:?}"),
-                    &format!("{:?} and its stores", want.0),
-                );
+            let got = (answer, records, entries);
+            if (got != want || !found) && totals.unknown() {
+                let shown = |o: &(Answer, Vec<u32>, Vec<u32>)| format!("{:?} {}", o.0, words(&o.1, &o.2));
+                difference(example.name, &example.code, &shown(&got), &shown(&want));
             }
         }
         println!("{}", example.name);
