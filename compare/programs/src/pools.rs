@@ -21,109 +21,88 @@ impl MadePool {
     }
 }
 
+/// A pool as it grows; an entry is named by the two bytes of its index.
 struct Maker {
     body: Vec<u8>,
     tags: Vec<u8>,
 }
+
 impl Maker {
     fn next(&self) -> usize {
         self.tags.len()
     }
-    fn entry(&mut self, tag: u8, bytes: &[u8]) -> usize {
-        let i = self.next();
+
+    fn entry(&mut self, tag: u8, bytes: &[u8]) -> [u8; 2] {
+        let index = self.next() as u16;
         self.tags.push(tag);
         self.body.push(tag);
         self.body.extend_from_slice(bytes);
+        // A long and a double take a second slot, which is never used.
         if tag == 5 || tag == 6 {
             self.tags.push(0);
         }
-        i
+        index.to_be_bytes()
     }
-    fn utf8(&mut self, s: &str) -> [u8; 2] {
-        let mut b = (s.len() as u16).to_be_bytes().to_vec();
-        b.extend_from_slice(s.as_bytes());
-        (self.entry(1, &b) as u16).to_be_bytes()
+
+    fn utf8(&mut self, text: &str) -> [u8; 2] {
+        let length = (text.len() as u16).to_be_bytes();
+        self.entry(1, &[&length, text.as_bytes()].concat())
     }
-    fn name_and_type(&mut self, n: &str, t: &str) -> [u8; 2] {
-        let (a, b) = (self.utf8(n), self.utf8(t));
-        (self.entry(12, &[a, b].concat()) as u16).to_be_bytes()
+
+    /// An entry that holds one text.
+    fn named(&mut self, tag: u8, text: &str) -> [u8; 2] {
+        let text = self.utf8(text);
+        self.entry(tag, &text)
     }
+
+    fn name_and_type(&mut self, name: &str, descriptor: &str) -> [u8; 2] {
+        let (name, descriptor) = (self.utf8(name), self.utf8(descriptor));
+        self.entry(12, &[name, descriptor].concat())
+    }
+
+    /// Every third class is an array.
     fn class(&mut self) -> [u8; 2] {
-        let i = self.next() + 1;
-        let n = if i % 3 == 0 { format!("[[Lc{i};") } else { format!("c{i}") };
-        let a = self.utf8(&n);
-        (self.entry(7, &a) as u16).to_be_bytes()
+        let own = self.next() + 1;
+        self.named(7, &if own % 3 == 0 { format!("[[Lc{own};") } else { format!("c{own}") })
     }
-    /// One entry of a tag, with what it needs before it. Its own index is in its name.
+
+    fn member(&mut self, tag: u8) -> [u8; 2] {
+        let own = self.next() + 5;
+        let class = self.class();
+        let member = self.name_and_type(&format!("m{own}"), if tag == 9 { "I" } else { "()V" });
+        self.entry(tag, &[class, member].concat())
+    }
+
+    fn dynamic(&mut self, tag: u8) -> [u8; 2] {
+        let own = self.next() + 3;
+        let member = self.name_and_type("d", if tag == 17 { "I" } else { "()V" });
+        self.entry(tag, &[(own as u16).to_be_bytes(), member].concat())
+    }
+
+    /// One entry of a tag, after what it needs.
     fn add(&mut self, tag: u8) {
+        let here = self.next();
         match tag {
-            1 => {
-                let i = self.next();
-                self.utf8(&format!("u{i}"));
-            }
-            3 => {
-                let i = self.next() as u32;
-                self.entry(3, &i.to_be_bytes());
-            }
-            4 => {
-                let i = self.next() as f32;
-                self.entry(4, &i.to_bits().to_be_bytes());
-            }
-            5 => {
-                let i = self.next() as u64;
-                self.entry(5, &i.to_be_bytes());
-            }
-            6 => {
-                let i = self.next() as f64;
-                self.entry(6, &i.to_bits().to_be_bytes());
-            }
-            7 => {
-                self.class();
-            }
-            8 => {
-                let i = self.next() + 1;
-                let u = self.utf8(&format!("s{i}"));
-                self.entry(8, &u);
-            }
-            9 | 10 | 11 => {
-                let i = self.next() + 5;
-                let c = self.class();
-                let n = self.name_and_type(&format!("m{i}"), if tag == 9 { "I" } else { "()V" });
-                let got = self.entry(tag, &[c, n].concat());
-                assert_eq!(got, i);
-            }
-            12 => {
-                let i = self.next();
-                self.name_and_type(&format!("n{i}"), "I");
-            }
+            1 => self.utf8("u"),
+            3 => self.entry(3, &(here as i32).to_be_bytes()),
+            4 => self.entry(4, &(here as f32).to_be_bytes()),
+            5 => self.entry(5, &(here as i64).to_be_bytes()),
+            6 => self.entry(6, &(here as f64).to_be_bytes()),
+            7 => self.class(),
+            9..=11 => self.member(tag),
+            12 => self.name_and_type("n", "I"),
             15 => {
-                let i = self.next() + 6;
-                let c = self.class();
-                let n = self.name_and_type(&format!("m{}", i - 1), "()V");
-                let m = (self.entry(10, &[c, n].concat()) as u16).to_be_bytes();
-                let got = self.entry(15, &[5, m[0], m[1]]);
-                assert_eq!(got, i);
+                // A handle of kind 5, that of a virtual method.
+                let [high, low] = self.member(10);
+                self.entry(15, &[5, high, low])
             }
-            16 => {
-                let i = self.next() + 1;
-                let u = self.utf8(&format!("(Lt{i};)V"));
-                self.entry(16, &u);
-            }
-            17 | 18 => {
-                let i = self.next() + 3;
-                let n = self.name_and_type(&format!("d{i}"), if tag == 17 { "I" } else { "()V" });
-                let b = (i as u16).to_be_bytes();
-                let got = self.entry(tag, &[b, n].concat());
-                assert_eq!(got, i);
-            }
-            19 | 20 => {
-                let i = self.next() + 1;
-                let u = self.utf8(&format!("p{i}"));
-                self.entry(tag, &u);
-            }
-            _ => panic!(),
-        }
+            16 => self.named(16, &format!("(Lt{};)V", here + 1)),
+            17 | 18 => self.dynamic(tag),
+            // A string, a module or a package.
+            _ => self.named(tag, &format!("s{}", here + 1)),
+        };
     }
+
     fn done(self, name: &'static str) -> MadePool {
         let mut bytes = (self.tags.len() as u16).to_be_bytes().to_vec();
         bytes.extend_from_slice(&self.body);
@@ -131,6 +110,7 @@ impl Maker {
     }
 }
 
+/// Every tag of JVMS 4.4.
 const TAGS: [u8; 17] = [1, 3, 4, 5, 6, 7, 8, 9, 10, 11, 12, 15, 16, 17, 18, 19, 20];
 
 fn maker() -> Maker {

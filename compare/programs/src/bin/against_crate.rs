@@ -31,7 +31,7 @@ impl Stores {
         }
     }
 
-    /// What differs from the crate after an acceptance, with both sides. The used words are old again afterwards.
+    /// What differs from the crate after an acceptance, with both sides.
     fn difference(&mut self, answer: Answer, decoded: &ByteCode) -> Option<Verdict> {
         crate_side::stores(decoded, Indices::Told, &mut self.crate_records, &mut self.crate_entries);
         let (records, entries) = (self.crate_records.len(), self.crate_entries.len());
@@ -49,9 +49,13 @@ impl Stores {
         if self.records[records..].iter().chain(&self.entries[entries..]).any(|w| *w != OLD) {
             return Some(both("a word past the used ones"));
         }
-        self.records[..records].fill(OLD);
-        self.entries[..entries].fill(OLD);
         None
+    }
+
+    /// Makes the words old again that an acceptance used.
+    fn renew(&mut self) {
+        self.records[..self.crate_records.len()].fill(OLD);
+        self.entries[..self.crate_entries.len()].fill(OLD);
     }
 
     /// Whether a refusal left every word 0. They are old again afterwards.
@@ -113,21 +117,25 @@ fn lookups(records: &[u32], answer: Answer, decoded: &ByteCode, offsets: &[u64])
     Ok(hits)
 }
 
+fn judge_accepted(code: &[u8], answer: Answer, decoded: &ByteCode, stores: &mut Stores, which: Lookups) -> Verdict {
+    if let Some(different) = stores.difference(answer, decoded) {
+        return different;
+    }
+    let offsets = which.offsets(code.len());
+    match lookups(&stores.records, answer, decoded, &offsets) {
+        Err(different) => different,
+        Ok(hits) => {
+            stores.renew();
+            Verdict::Accepted { answer, lookups: offsets.len() as u64, hits }
+        }
+    }
+}
+
 fn judge<'a>(code: &'a [u8], pool: &Pool<'a>, tags: &[u8], stores: &mut Stores, which: Lookups) -> Verdict {
     let answer = station::decode(code, tags, &mut stores.records, &mut stores.entries);
-    let theirs = pool.decode(code);
     let different = |what, theirs: String| Verdict::Different(what, format!("{answer:?}"), theirs);
-    match (answer.number, theirs) {
-        (0, Ok(decoded)) => {
-            let offsets = which.offsets(code.len());
-            match lookups(&stores.records, answer, &decoded, &offsets) {
-                Err(verdict) => verdict,
-                Ok(hits) => {
-                    let same = Verdict::Accepted { answer, lookups: offsets.len() as u64, hits };
-                    stores.difference(answer, &decoded).unwrap_or(same)
-                }
-            }
-        }
+    match (answer.number, pool.decode(code)) {
+        (0, Ok(decoded)) => judge_accepted(code, answer, &decoded, stores, which),
         (0, Err(error)) => different("acceptance", format!("refused: {error}")),
         (_, _) if !stores.were_cleared() => different("a refusal leaves words", "not asked".into()),
         (_, Ok(_)) if is_known(code, answer) => Verdict::Known,
