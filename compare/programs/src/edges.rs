@@ -3,7 +3,7 @@
 const TABLE: u8 = 0xaa;
 const LOOKUP: u8 = 0xab;
 
-/// The longest code, and where a code counts as long.
+/// The most bytes of a code.
 const LONGEST: usize = 65_535;
 
 fn is_wide(op: u8) -> bool {
