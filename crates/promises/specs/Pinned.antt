@@ -36,6 +36,7 @@ use Rattle.instruction.specs.Theorems.{entriesOf}
 use Rattle.lookup.specs.Lookup.{lookupOf}
 use Rattle.filling.specs.Filling.{recordOf}
 use Rattle.bytecode.specs.Decoding.{decoding, recordsAfter, entriesAfter}
+use Rattle.station.specs.Station.{decodeAnswer, lookupAnswer}
 
 -- an answer alone, with the contents of one lent slice afterwards, and with those of two
 abbrev pub Answer : {A : Type 0} → A → Type 0
@@ -57,6 +58,9 @@ pub record EntriesPinned : Type 0 where
   pub read-u4 : (code : List ℕ) (at : CodeOffset) → Answer (readOf 4 code at)
   pub entry-at : (pool : List ℕ) (index : ℕ) → Answer (entryAt pool index)
   pub entry-of-kind : (pool : List ℕ) (kinds : Kinds) (index : ℕ) → Answer (entryOfKind pool kinds index)
+  -- the library for C
+  pub nk-decode : (code pool records entries : List ℕ) → AnswerWithTwo (decodeAnswer (decoding code pool records entries)) (recordsAfter code pool records entries) (entriesAfter code pool records entries)
+  pub nk-lookup : (records : List ℕ) (count : ℕ) (offset : CodeOffset) → Answer (lookupAnswer (lookupOf records count offset))
   -- names
   pub is-unqualified-name : (name : List ℕ) → Answer (isUnqualifiedName name)
   pub is-unqualified-method-name : (init clinit : Bool) (name : List ℕ) → Answer (isMethodName init clinit name)
