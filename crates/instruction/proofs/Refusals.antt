@@ -159,4 +159,6 @@ module _ (code pool : List ℕ) where
   step-number at = then-number (readOf 1 code at) _ (read-number code 1 at) (λ byte next. laid-number (kindOf byte) at next (layoutOf (formatOf byte)))
 
 pub step-refuses : StepRefuses
-step-refuses code pool at n place e = subst StepNumber e (step-number code pool at)
+step-refuses code pool at n place e =
+    let number : Number n = subst StepNumber e (step-number code pool at) in
+    (omega (arith, number), omega (arith, number))

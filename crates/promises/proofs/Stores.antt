@@ -60,7 +60,9 @@ module _ (code pool records entries records′ entries′ : List ℕ) (h : recor
   fits (run.Filled n m) c e room = filled-fits (linesOf code pool) (recordRoom records) (entryRoom entries) 0 0 n m e
   fits (run.Refused n p) c e room =
       fits-unless (linesOf code pool) (recordRoom records) (entryRoom entries) 0 0
-      (λ n′ p′ f. subst (λ (x : ℕ). (x ≡ 14 → ⊥) × (x ≡ 15 → ⊥)) (let same : run.Refused n p ≡ run.Refused n′ p′ = sym e ∙ f in cc) room)
+      (λ n′ p′ f.
+      let same : n ≡ n′ = let both : run.Refused n p ≡ run.Refused n′ p′ = sym e ∙ f in cc in
+      (λ q. room .0 (omega (arith, same, q)), λ q. room .1 (omega (arith, same, q))))
 
   abbrev answer : List ℕ → List ℕ → Bool → Bool → Decoded
   answer r e c p =
