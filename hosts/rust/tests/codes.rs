@@ -1,10 +1,11 @@
 //! Every operation, iterators from both ends, lookups, and the sizes of the stores.
 use nikorepum::{decode, entry_words, lookup, record_words, BaseType, Operation, Reason, CODE_LIMIT};
 
-/// Tags: a Class, an InterfaceMethodref and a String, at 1, 2 and 3.
-const POOL: [u8; 4] = [0, 7, 11, 8];
+/// The tags of a Class, an InterfaceMethodref, a String, a Fieldref, a Methodref and an InvokeDynamic, at 1 to 6.
+const POOL: [u8; 7] = [0, 7, 11, 8, 9, 10, 18];
 
-/// Kind and operation of a code's first instruction, checked to be alone or followed by one return.
+/// Kind and operation of a code's first instruction, at most one other following it. The stores are leaked, so that the
+/// operation may be compared later.
 fn first(code: &[u8]) -> (u8, Operation<'static>) {
     let (records, entries) = (vec![0; record_words(code.len())], vec![0; entry_words(code.len())]);
     let decoded = decode(code, &POOL, records.leak(), entries.leak()).unwrap();
@@ -15,15 +16,32 @@ fn first(code: &[u8]) -> (u8, Operation<'static>) {
 }
 
 #[test]
+fn plain_instructions() {
+    let plain = (0x00..=0x0f).chain(0x2e..=0x35).chain(0x4f..=0x83).chain(0x85..=0x98).chain(0xac..=0xb1);
+    for byte in plain.chain([0xbe, 0xbf, 0xc2, 0xc3, 0xca, 0xfe, 0xff]) {
+        assert_eq!(first(&[byte]), (byte, Operation::Plain));
+    }
+}
+
+#[test]
+fn pool_indices() {
+    let classes = [0xbb, 0xbd, 0xc0, 0xc1].map(|byte| (byte, 1));
+    let constants = [0x13, 0x14].map(|byte| (byte, 3));
+    let fields = [0xb2, 0xb3, 0xb4, 0xb5].map(|byte| (byte, 4));
+    let methods = [0xb6, 0xb7, 0xb8].map(|byte| (byte, 5));
+    for (byte, index) in classes.into_iter().chain(constants).chain(fields).chain(methods) {
+        assert_eq!(first(&[byte, 0, index]), (byte, Operation::Pool { index: index.into() }));
+    }
+    assert_eq!(first(&[0xba, 0, 6, 0, 0]), (0xba, Operation::Pool { index: 6 }));
+}
+
+#[test]
 fn operands() {
-    assert_eq!(first(&[0xb1]), (0xb1, Operation::Plain));
-    assert_eq!(first(&[0xff]), (0xff, Operation::Plain));
     assert_eq!(first(&[0x10, 0x80]), (0x10, Operation::Push(-128)));
     assert_eq!(first(&[0x11, 0x80, 0x00]), (0x11, Operation::Push(-32_768)));
     assert_eq!(first(&[0xbc, 4]), (0xbc, Operation::NewArray(BaseType::Boolean)));
     assert_eq!(first(&[0xbc, 11]), (0xbc, Operation::NewArray(BaseType::Long)));
     assert_eq!(first(&[0x12, 3]), (0x12, Operation::Pool { index: 3 }));
-    assert_eq!(first(&[0xc1, 0, 1]), (0xc1, Operation::Pool { index: 1 }));
     assert_eq!(first(&[0xb9, 0, 2, 9, 0]), (0xb9, Operation::InvokeInterface { index: 2, count: 9 }));
     assert_eq!(first(&[0xc5, 0, 1, 3]), (0xc5, Operation::MultiNewArray { index: 1, dimensions: 3 }));
 }
@@ -38,12 +56,19 @@ fn array_types_follow_jvms() {
 }
 
 #[test]
-fn short_and_wide_forms_share_a_kind() {
-    assert_eq!(first(&[0x15, 200]), (0x15, Operation::Local(200)));
-    assert_eq!(first(&[0x2d]), (0x19, Operation::Local(3)));
-    assert_eq!(first(&[0x3b]), (0x36, Operation::Local(0)));
-    assert_eq!(first(&[0xc4, 0x3a, 0x12, 0x34]), (0x3a, Operation::Local(0x1234)));
-    assert_eq!(first(&[0xa9, 1]), (0xa9, Operation::Local(1)));
+fn locals_and_their_short_and_wide_forms() {
+    for kind in (0x15..=0x19).chain(0x36..=0x3a).chain([0xa9]) {
+        assert_eq!(first(&[kind, 200]), (kind, Operation::Local(200)));
+        assert_eq!(first(&[0xc4, kind, 0x12, 0x34]), (kind, Operation::Local(0x1234)));
+    }
+    for short in 0..20 {
+        assert_eq!(first(&[0x1a + short]), (0x15 + short / 4, Operation::Local((short % 4).into())));
+        assert_eq!(first(&[0x3b + short]), (0x36 + short / 4, Operation::Local((short % 4).into())));
+    }
+}
+
+#[test]
+fn increments() {
     assert_eq!(first(&[0x84, 2, 0xff]), (0x84, Operation::Increment { local: 2, by: -1 }));
     let wide = Operation::Increment { local: 256, by: -32_768 };
     assert_eq!(first(&[0xc4, 0x84, 1, 0, 0x80, 0]), (0x84, wide));
@@ -51,7 +76,9 @@ fn short_and_wide_forms_share_a_kind() {
 
 #[test]
 fn jumps_have_absolute_targets() {
-    assert_eq!(first(&[0xc7, 0, 3, 0xb1]), (0xc7, Operation::Jump { target: 3 }));
+    for kind in (0x99..=0xa8).chain([0xc6, 0xc7]) {
+        assert_eq!(first(&[kind, 0, 3, 0xb1]), (kind, Operation::Jump { target: 3 }));
+    }
     assert_eq!(first(&[0xc8, 0, 0, 0, 5, 0xb1]), (0xa7, Operation::Jump { target: 5 }));
     assert_eq!(first(&[0xc9, 0, 0, 0, 0]), (0xa8, Operation::Jump { target: 0 }));
     let mut records = [0; 12];

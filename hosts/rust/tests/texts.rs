@@ -80,6 +80,7 @@ fn a_method_prefix_leaves_the_rest() {
     let (method, used) = MethodDescriptor::parse_prefix(b"(I)J and more", &mut store).unwrap();
     assert_eq!(used, 4);
     assert_eq!(method.returns(), ReturnDescriptor::Value(base(0, BaseType::Long)));
+    assert_eq!(Ok(method), MethodDescriptor::parse(b"(I)J", &mut [0; 4]));
     let mut out = [b'.'; 6];
     assert_eq!(method.write(&mut out), Ok(4));
     assert_eq!(&out, b"(I)J..");
