@@ -98,7 +98,7 @@ static void method(const char *text)
         print_refusal(returns.number, returns.place, 0);
         return;
     }
-    printf("accepted, %" PRIu32 " parameters\n", returns.parameters);
+    printf("accepted, %" PRIu32 " parameters, %" PRIu64 " bytes\n", returns.parameters, returns.used);
     for (uint32_t i = 0; i < returns.parameters; i++) {
         const uint32_t *p = parameters + NK_PART_WORDS * i;
         print_written("  parameter", nk_print_field(TEXT(text), p[0], p[1], p[2], p[3], out, COUNT(out)));

@@ -28,6 +28,11 @@
 #![deny(unsafe_code)]
 #![deny(missing_docs)]
 
+/// The examples in Rust of the hosts' page, run with those of the documentation.
+#[cfg(doctest)]
+#[doc = include_str!("../../README.md")]
+mod readme {}
+
 mod code;
 mod descriptors;
 mod names;

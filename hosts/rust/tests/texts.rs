@@ -190,7 +190,7 @@ fn names() {
 
 #[test]
 fn descriptors_yes_or_no() {
-    assert!(is_field_descriptor(b"La;") && !is_field_descriptor(b"La") && !is_field_descriptor(b"II"));
+    assert!(is_field_descriptor(b"La;") && !is_field_descriptor(b"V") && !is_field_descriptor(b"II"));
     assert!(is_array_descriptor(b"[La;") && !is_array_descriptor(b"La;") && !is_array_descriptor(b"["));
     assert!(is_return_descriptor(b"V") && is_return_descriptor(b"I") && !is_return_descriptor(b"[V"));
     assert!(is_method_descriptor(b"()V") && !is_method_descriptor(b"()") && !is_method_descriptor(b"()VV"));
