@@ -7,9 +7,9 @@
 
 /* Stores that are enough for the small codes and texts below. */
 enum { CODE_BYTES = 32, TEXT_BYTES = 64 };
-static uint32_t records[NK_RECORD_WORDS * CODE_BYTES];
-static uint32_t entries[NK_ENTRY_WORDS * (CODE_BYTES / 4)];
-static uint32_t parameters[NK_PART_WORDS * TEXT_BYTES];
+static uint32_t records[NK_RECORD_WORDS_FOR(CODE_BYTES)];
+static uint32_t entries[NK_ENTRY_WORDS_FOR(CODE_BYTES)];
+static uint32_t parameters[NK_PARAMETER_WORDS_FOR(TEXT_BYTES)];
 static uint8_t out[TEXT_BYTES];
 
 #define COUNT(array) (sizeof(array) / sizeof((array)[0]))

@@ -50,43 +50,43 @@ enum nk_number {
 
     /* Code: nk_decode. First 1, then 2, then the instructions in order, then all jumps in order. Within an instruction
      * the bytes in order, an index's range and kind straight after the index, then 14, then 15. */
-    NK_CODE_TOO_LONG = 1,     /* over NK_CODE_LIMIT bytes: 0 */
-    NK_POOL_TOO_LONG = 2,     /* over NK_POOL_LIMIT bytes: 0 */
-    NK_PAST_END = 3,          /* a read runs past the end: where that read starts, which may lie past the end */
-    NK_NO_INSTRUCTION = 4,    /* the byte is no instruction: that byte */
-    NK_NOT_AFTER_WIDE = 5,    /* wide does not go before this byte: that byte */
-    NK_NO_POOL_ENTRY = 6,     /* a pool index that is 0 or not in the table: its bytes */
-    NK_WRONG_KIND = 7,        /* the pool entry is not of a kind that the instruction takes: the index's bytes */
-    NK_NOT_ZERO = 8,          /* last bytes of invokeinterface or invokedynamic that must be zero: the first of them */
-    NK_NO_ARRAY_TAG = 9,      /* newarray with a tag that is not 4 to 11: the tag */
-    NK_BAD_BOUNDS = 10,       /* tableswitch with low > high or more than 2,147,483,647 entries: the high word */
-    NK_NEGATIVE_COUNT = 11,   /* lookupswitch with a negative number of pairs: that number */
+    NK_CODE_TOO_LONG = 1,      /* over NK_CODE_LIMIT bytes: 0 */
+    NK_POOL_TOO_LONG = 2,      /* over NK_POOL_LIMIT bytes: 0 */
+    NK_PAST_END = 3,           /* a read runs past the end: where that read starts, which may lie past the end */
+    NK_NO_INSTRUCTION = 4,     /* the byte is no instruction: that byte */
+    NK_NOT_AFTER_WIDE = 5,     /* wide does not go before this byte: that byte */
+    NK_NO_POOL_ENTRY = 6,      /* a pool index that is 0 or not in the table: its bytes */
+    NK_WRONG_KIND = 7,         /* the pool entry is not of a kind that the instruction takes: the index's bytes */
+    NK_NOT_ZERO = 8,           /* last bytes of invokeinterface or invokedynamic that must be zero: the first of them */
+    NK_NO_ARRAY_TAG = 9,       /* newarray with a tag that is not 4 to 11: the tag */
+    NK_BAD_BOUNDS = 10,        /* tableswitch with low > high or more than 2,147,483,647 entries: the high word */
+    NK_NEGATIVE_COUNT = 11,    /* lookupswitch with a negative number of pairs: that number */
     NK_TARGET_BELOW_ZERO = 12, /* a jump's target lies below 0: the instruction */
-    NK_NO_TARGET = 13,        /* no instruction starts at a jump's target: the instruction */
-    NK_NO_ENTRY_LEFT = 14,    /* the store has too few entries left for this switch: the instruction */
-    NK_NO_RECORD_LEFT = 15,   /* the store has no record left: the instruction */
+    NK_NO_TARGET = 13,         /* no instruction starts at a jump's target: the instruction */
+    NK_NO_ENTRY_LEFT = 14,     /* the store has too few entries left for this switch: the instruction */
+    NK_NO_RECORD_LEFT = 15,    /* the store has no record left: the instruction */
 
-    /* Texts. First 21 (for an identifier 32), then the leftmost byte decides; 30 after its parameter is read, 31 last. */
-    NK_TEXT_TOO_LONG = 21,    /* over NK_TEXT_LIMIT bytes, given or to be printed: 0 */
-    NK_TYPE_DUE = 22,         /* the text ends where a type is due: the text's length */
-    NK_NO_SUCH_TYPE = 23,     /* no type has this letter here: that byte */
-    NK_DIMENSION_256 = 24,    /* one '[' more than NK_MAX_DIMENSIONS: that byte */
-    NK_EMPTY_SEGMENT = 25,    /* '/' or ';' opens a segment of a class name: that byte */
-    NK_BARRED_BYTE = 26,      /* one of . [ < > in a class name: that byte */
-    NK_NAME_NOT_ENDED = 27,   /* the text ends before the ';' of a class name: the text's length */
-    NK_LONE_SEMICOLON = 28,   /* ';' in a class name alone, not at a segment's start: that byte */
-    NK_NO_PARENTHESIS = 29,   /* a method descriptor does not start with '(': 0 */
+    /* Texts. First 21, of an identifier 32; then the leftmost byte decides; 30 after its parameter is read; last 31. */
+    NK_TEXT_TOO_LONG = 21,     /* over NK_TEXT_LIMIT bytes, given or to be printed: 0 */
+    NK_TYPE_DUE = 22,          /* the text ends where a type is due: the text's length */
+    NK_NO_SUCH_TYPE = 23,      /* no type has this letter here: that byte */
+    NK_DIMENSION_256 = 24,     /* one '[' more than NK_MAX_DIMENSIONS: that byte */
+    NK_EMPTY_SEGMENT = 25,     /* '/' or ';' opens a segment of a class name: that byte */
+    NK_BARRED_BYTE = 26,       /* one of . [ < > in a class name: that byte */
+    NK_NAME_NOT_ENDED = 27,    /* the text ends before the ';' of a class name: the text's length */
+    NK_LONE_SEMICOLON = 28,    /* ';' in a class name alone, not at a segment's start: that byte */
+    NK_NO_PARENTHESIS = 29,    /* a method descriptor does not start with '(': 0 */
     NK_NO_PARAMETER_LEFT = 30, /* the store has no part left for a parameter: the parameter's start */
-    NK_LEFT_OVER = 31,        /* bytes after the descriptor: the first of them */
-    NK_NAME_NOT_VALID = 32,   /* a method's name that is none: 0 */
-    NK_OUTPUT_TOO_SHORT = 33, /* the output has too few bytes: 0 */
-    NK_BROKEN_PARTS = 34,     /* parts that no descriptor has, see nk_print_field: 0 */
+    NK_LEFT_OVER = 31,         /* bytes after the descriptor: the first of them */
+    NK_NAME_NOT_VALID = 32,    /* a method's name that is none: 0 */
+    NK_OUTPUT_TOO_SHORT = 33,  /* the output has too few bytes: 0 */
+    NK_BROKEN_PARTS = 34,      /* parts that no descriptor has, see nk_print_field: 0 */
 
-    NK_NOT_SORTED = 35        /* nk_lookup: records missing, or offsets that do not strictly increase: 0 */
+    NK_NOT_SORTED = 35         /* nk_lookup: records missing, or offsets that do not strictly increase: 0 */
 };
 
-/* The answer of most functions. `first` and `next` say what an accepting function found; 0 if it names none. `second`
- * is 0 but for 12 and 13, where it tells the jump: 0 a plain jump or a switch's default, i + 1 entry i of the switch. */
+/* The answer of most functions. `first` and `next` are what an accepting function names them for, else 0. `second` is
+ * 0 but for 12 and 13, where it tells the jump: 0 a plain jump or a switch's default, i + 1 entry i of the switch. */
 typedef struct nk_answer {
     uint32_t number;
     uint32_t second;
@@ -114,9 +114,20 @@ typedef struct nk_parts {
 
 /* ---- Code ---- */
 
-/* Decodes a whole code and checks its jumps. `pool` has a byte for each entry of the constant pool, its tag (JVMS 4.4),
- * 0 for an unused slot; entry 0 is never one. On acceptance `first` is the number of instructions, `next` that of
- * switch entries. Each instruction has a record, in order, six words: offset, kind, a, b, c, d.
+/* Decodes a whole code and checks its jumps. The first bytes of instructions are 00 to ca, fe and ff (hex).
+ *
+ * `pool` has a byte for each entry of the constant pool, its tag (JVMS 4.4), 0 for an unused slot; index 0 is never an
+ * entry. An instruction takes entries of these tags, and any other gets 7:
+ *     ldc, ldc_w, ldc2_w                                       3 to 8, 15, 16, 17
+ *     getstatic, putstatic, getfield, putfield                 9
+ *     invokevirtual                                            10
+ *     invokespecial, invokestatic                              10, 11
+ *     invokeinterface                                          11
+ *     invokedynamic                                            18
+ *     new, anewarray, checkcast, instanceof, multianewarray    7
+ *
+ * On acceptance `first` is the number of instructions, `next` that of switch entries. Each instruction has a record, in
+ * the order of the code, six words: offset, kind, a, b, c, d.
  *
  *   The kind is the opcode byte. Short and wide forms have the kind of their plain one: iload_0 to aload_3 and istore_0
  *   to astore_3 that of iload to aload and istore to astore, goto_w that of goto, jsr_w that of jsr, and what follows
@@ -139,7 +150,7 @@ nk_answer nk_decode(const uint8_t *code, size_t code_count,
                     uint32_t *entries, size_t entries_count);
 
 /* Looks an offset up among the first `count` records of a store, which is only read. Accepted, `next` is 1 where one
- * has the offset and `first` its index; else both are 0. Refuses with 35 alone. It looks at every counted record. */
+ * has the offset and `first` its index; else both are 0. The one refusal is 35. Each counted record is looked at. */
 nk_answer nk_lookup(const uint32_t *records, size_t records_count, uint64_t count, uint64_t offset);
 
 /* ---- Texts ----

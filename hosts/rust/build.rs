@@ -13,8 +13,8 @@ fn main() {
     if !archive.is_file() {
         stop(&format!(
             "The verified library is missing: there is no {}.\n\
-             Run `rt staticlib station` at the root of the repository (at the first time some minutes: it proves every\n\
-             function), or set NIKOREPUM_LIB to the full path of the folder that holds libstation.a.",
+             Run `rt staticlib station` at the root of the repository, which proves every function (some minutes),\n\
+             or set NIKOREPUM_LIB to the full path of the folder that holds libstation.a.",
             archive.display()
         ));
     }

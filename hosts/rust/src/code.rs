@@ -8,7 +8,10 @@ type Entry = [u32; ENTRY_WORDS];
 
 /// Decodes a whole code and checks its jumps.
 ///
-/// `pool` has a byte for each entry of the constant pool, its tag (JVMS 4.4), 0 for an unused slot; entry 0 is never one.
+/// `pool` has a byte for each entry of the constant pool, its tag (JVMS 4.4), 0 for an unused slot; index 0 is never an
+/// entry. Which tags an instruction takes is JVMS 6.5's, but that `ldc`, `ldc_w` and `ldc2_w` take any loadable
+/// constant.
+///
 /// The words of the instructions go to `records`, those of the switch entries to `entries`, each from the front. Words
 /// past them stay as they were; a refusal sets every word of both stores to zero.
 ///
@@ -38,8 +41,8 @@ pub fn decode<'s>(
 
 /// The index of the record with this offset among the first `count` of any store of records.
 ///
-/// It is refused with [`Reason::NotSorted`](crate::Reason::NotSorted) where the store has fewer records or their offsets
-/// do not strictly increase. Every counted record is looked at.
+/// It is refused with [`Reason::NotSorted`](crate::Reason::NotSorted) where the store has fewer records or their
+/// offsets do not strictly increase. Every counted record is looked at.
 ///
 /// ```
 /// use nikorepum::{decode, lookup};

@@ -1,8 +1,8 @@
 //! Checks JVM bytecode, descriptors and names before they are loaded.
 //!
 //! The answers come from a library written in Rattle, in which every function is proved to give exactly the answer that
-//! the JVM Specification (JVMS, Java SE 21) and document 01, the order's page on what is checked, ask for. This crate puts
-//! those answers into Rust's terms: it allocates nothing, has no dependency, needs no `std`, and never panics.
+//! the JVM Specification (JVMS, Java SE 21) and document 01, the order's page on what is checked, ask for. This crate
+//! puts those answers into Rust's terms: it allocates nothing, has no dependency, needs no `std`, and never panics.
 //!
 //! Whatever is found goes to stores that the caller lends, slices of 32-bit words, and is read from there through
 //! iterators. [`record_words`], [`entry_words`] and [`parameter_words`] say how many words are enough.

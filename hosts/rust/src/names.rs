@@ -2,7 +2,8 @@
 use crate::raw;
 use crate::refusal::{accepted, written, Refusal};
 
-/// Whether the text is a class name alone: segments joined by `/`, each non-empty but for the last, without `. ; [ < >`.
+/// Whether the text is a class name alone: segments joined by `/`, each non-empty but for the last, without `. ; [ <
+/// >`.
 ///
 /// Class names inside a descriptor are stricter: their last segment is not empty either.
 ///
@@ -19,8 +20,8 @@ pub fn class_name(text: &[u8]) -> Result<(), Refusal> {
 
 /// Writes the method identifier, the bytes of the name and then those of the descriptor, and returns its length.
 ///
-/// The name may be `<init>` or `<clinit>`. The place of a refused descriptor is the one in the descriptor. The output is
-/// untouched past the identifier, and untouched altogether by a refusal.
+/// The name may be `<init>` or `<clinit>`. The place of a refused descriptor is the one in the descriptor. The output
+/// is untouched past the identifier, and untouched altogether by a refusal.
 ///
 /// ```
 /// let mut out = [0; 32];
@@ -52,7 +53,8 @@ pub fn is_unqualified_name(text: &[u8]) -> bool {
     raw::is_unqualified_name(text)
 }
 
-/// Whether the text is an unqualified name without `<` and `>`, or one of the special names that are allowed (JVMS 4.2.2).
+/// Whether the text is an unqualified name without `<` and `>`, or one of the special names that are allowed (JVMS
+/// 4.2.2).
 ///
 /// ```
 /// use nikorepum::is_method_name;
@@ -65,8 +67,8 @@ pub fn is_method_name(text: &[u8], allow_init: bool, allow_clinit: bool) -> bool
     raw::is_method_name(text, allow_init, allow_clinit)
 }
 
-/// Whether the text has no byte of 0 to 31, and `\`, `:` and `@` only in the pairs `\\`, `\:` and `\@` (JVMS 4.2.3). The
-/// empty text is one.
+/// Whether the text has no byte of 0 to 31, and `\`, `:` and `@` only in the pairs `\\`, `\:` and `\@` (JVMS 4.2.3).
+/// The empty text is one.
 ///
 /// ```
 /// assert!(nikorepum::is_module_name(br"cycle\:log"));

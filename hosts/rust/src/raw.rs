@@ -3,8 +3,8 @@
 //! `nikorepum.h` in `hosts/c` says of each function what its numbers are, and what words it leaves in the stores.
 #![allow(unsafe_code)]
 
-/// Number 0 is acceptance, and `first` and `next` say what was found. Any other number is a refusal, with its place and its
-/// second number.
+/// Number 0 is acceptance, and `first` and `next` say what was found. Any other number is a refusal, with its place and
+/// its second number.
 #[repr(C)]
 #[derive(Clone, Copy, Debug, PartialEq, Eq)]
 pub struct Answer {
@@ -141,8 +141,8 @@ mod c {
     }
 }
 
-// Why each call below is safe: a pointer comes with the count of what it points to, what is lent to be changed is borrowed
-// by itself, and the library asks for nothing else.
+// Why each call below is safe: a pointer comes with the count of what it points to, what is lent to be changed is
+// borrowed by itself, and the library asks for nothing else.
 
 /// A code decoded. On acceptance `first` is the number of instructions and `next` that of switch entries.
 #[inline]
@@ -161,7 +161,8 @@ pub fn decode(code: &[u8], pool: &[u8], records: &mut [u32], entries: &mut [u32]
     }
 }
 
-/// The record of an offset among the first `count`. On acceptance `next` is 1 where there is one, and `first` its index.
+/// The record of an offset among the first `count`. On acceptance `next` is 1 where there is one, and `first` its
+/// index.
 #[inline]
 pub fn lookup(records: &[u32], count: u64, offset: u64) -> Answer {
     unsafe { c::nk_lookup(records.as_ptr(), records.len(), count, offset) }

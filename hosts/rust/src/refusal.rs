@@ -18,8 +18,8 @@ macro_rules! reasons {
         #[non_exhaustive]
         pub enum Reason {
             $(#[doc = concat!("Number ", $number, ": ", $words, ".")] $name,)*
-            /// A number that is none of the above. The library that this crate is written for gives none; one of a later
-            /// library would still be a refusal, and is told by its number.
+            /// A number that is none of the above. The library that this crate is written for gives none; one of a
+            /// later library would still be a refusal, and is told by its number.
             Other(u32),
         }
 
