@@ -2,8 +2,7 @@
 use crate::raw;
 use crate::refusal::{accepted, written, Refusal};
 
-/// Whether the text is a class name alone: segments joined by `/`, each non-empty but for the last, without `. ; [ <
-/// >`.
+/// Whether the text is a class name alone: segments joined by `/`, all but the last non-empty, without `. ; [ < >`.
 ///
 /// Class names inside a descriptor are stricter: their last segment is not empty either.
 ///
@@ -53,8 +52,7 @@ pub fn is_unqualified_name(text: &[u8]) -> bool {
     raw::is_unqualified_name(text)
 }
 
-/// Whether the text is an unqualified name without `<` and `>`, or one of the special names that are allowed (JVMS
-/// 4.2.2).
+/// Whether the text is an unqualified name without `<` and `>`, or a special name that is allowed (JVMS 4.2.2).
 ///
 /// ```
 /// use nikorepum::is_method_name;
