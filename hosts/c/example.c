@@ -12,6 +12,7 @@ static uint32_t entries[NK_ENTRY_WORDS_FOR(CODE_BYTES)];
 static uint32_t parameters[NK_PARAMETER_WORDS_FOR(TEXT_BYTES)];
 static uint8_t out[TEXT_BYTES];
 
+/* The count of an array's elements, and a C string as the two arguments of a slice. */
 #define COUNT(array) (sizeof(array) / sizeof((array)[0]))
 #define TEXT(string) (const uint8_t *)(string), strlen(string)
 
@@ -23,20 +24,22 @@ static void print_refusal(uint32_t number, uint64_t place, uint32_t second)
     printf("\n");
 }
 
-/* The records and entries that a decoding left, as document 01 writes them. */
-static void print_stores(uint64_t instructions, uint64_t switch_entries)
+/* Records and entries are printed as document 01 writes them. */
+static void print_records(uint64_t count)
 {
-    for (uint64_t i = 0; i < instructions; i++) {
+    for (uint64_t i = 0; i < count; i++) {
         const uint32_t *r = records + NK_RECORD_WORDS * i;
         printf(" (%" PRIu32 ",%" PRIx32 "h,%" PRIu32 ",%" PRIu32 ",%" PRIu32 ",%" PRIu32 ")",
                r[0], r[1], r[2], r[3], r[4], r[5]);
     }
-    printf("; entries");
-    for (uint64_t i = 0; i < switch_entries; i++) {
+}
+
+static void print_entries(uint64_t count)
+{
+    for (uint64_t i = 0; i < count; i++) {
         const uint32_t *e = entries + NK_ENTRY_WORDS * i;
         printf(" (%" PRIu32 ",%" PRIu32 ")", e[0], e[1]);
     }
-    printf("\n");
 }
 
 /* Decodes a code that uses no pool entry, so that the pool table is empty. Returns the number of instructions. */
@@ -49,7 +52,10 @@ static uint64_t decode(const char *name, const uint8_t *code, size_t code_count)
         return 0;
     }
     printf("accepted %" PRIu64 " %" PRIu64 ":", answer.first, answer.next);
-    print_stores(answer.first, answer.next);
+    print_records(answer.first);
+    printf("; entries");
+    print_entries(answer.next);
+    printf("\n");
     return answer.first;
 }
 
