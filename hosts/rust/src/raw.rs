@@ -1,25 +1,32 @@
 //! The library's functions as they are, over slices: numbers in, numbers out. This is the only module with unsafe code.
 //!
-//! `nikorepum.h` in `hosts/c` says of each function what its numbers are.
+//! `nikorepum.h` in `hosts/c` says of each function what its numbers are, and what words it leaves in the stores.
 #![allow(unsafe_code)]
 
-/// Number 0 is acceptance, and `first` and `next` say what was found. Any other number is a refusal, with its place and its
-/// second number.
+/// Number 0 is acceptance, and `first` and `next` say what was found. Any other number is a refusal, with its place and
+/// its second number.
 #[repr(C)]
 #[derive(Clone, Copy, Debug, PartialEq, Eq)]
 pub struct Answer {
+    /// 0, or the number of a refusal.
     pub number: u32,
+    /// Which jump is refused.
     pub second: u32,
+    /// Where the refusal stands.
     pub place: u64,
+    /// What the function found.
     pub first: u64,
+    /// What else it found.
     pub next: u64,
 }
 
 impl Answer {
+    /// An acceptance.
     pub const fn accepted(first: u64, next: u64) -> Answer {
         Answer { number: 0, second: 0, place: 0, first, next }
     }
 
+    /// A refusal.
     pub const fn refused(number: u32, place: u64, second: u32) -> Answer {
         Answer { number, second, place, first: 0, next: 0 }
     }
@@ -30,13 +37,21 @@ impl Answer {
 #[repr(C)]
 #[derive(Clone, Copy, Debug, PartialEq, Eq)]
 pub struct Parts {
+    /// 0, or the number of a refusal.
     pub number: u32,
+    /// Those of an array.
     pub dimensions: u32,
+    /// The byte of its type.
     pub letter: u32,
+    /// Where the class name starts in the text.
     pub start: u32,
+    /// How many bytes it has.
     pub length: u32,
+    /// How many parameters a method has.
     pub parameters: u32,
+    /// Where the refusal stands.
     pub place: u64,
+    /// How many bytes of the text the descriptor has.
     pub used: u64,
 }
 
@@ -126,7 +141,8 @@ mod c {
     }
 }
 
-// Each pointer below comes with the count of what it points to, and what is lent to be changed is borrowed by itself.
+// Why each call below is safe: a pointer comes with the count of what it points to, what is lent to be changed is
+// borrowed by itself, and the library asks for nothing else.
 
 /// A code decoded. On acceptance `first` is the number of instructions and `next` that of switch entries.
 #[inline]
@@ -145,7 +161,8 @@ pub fn decode(code: &[u8], pool: &[u8], records: &mut [u32], entries: &mut [u32]
     }
 }
 
-/// The record of an offset among the first `count`. On acceptance `next` is 1 where there is one, and `first` its index.
+/// The record of an offset among the first `count`. On acceptance `next` is 1 where there is one, and `first` its
+/// index.
 #[inline]
 pub fn lookup(records: &[u32], count: u64, offset: u64) -> Answer {
     unsafe { c::nk_lookup(records.as_ptr(), records.len(), count, offset) }
@@ -207,6 +224,7 @@ pub fn print_return(
 
 /// A method descriptor from the first `count` parameters and the part of its return.
 #[inline]
+#[allow(clippy::too_many_arguments)]
 pub fn print_method(
     text: &[u8],
     parameters: &[u32],
@@ -284,41 +302,49 @@ pub fn method_whole(text: &[u8], parameters: &mut [u32]) -> Parts {
     unsafe { c::nk_method_whole(text.as_ptr(), text.len(), parameters.as_mut_ptr(), parameters.len()) }
 }
 
+/// Whether the text is a binary name.
 #[inline]
 pub fn is_binary_name(text: &[u8]) -> bool {
     unsafe { c::nk_is_binary_name(text.as_ptr(), text.len()) }
 }
 
+/// Whether the text is an unqualified name.
 #[inline]
 pub fn is_unqualified_name(text: &[u8]) -> bool {
     unsafe { c::nk_is_unqualified_name(text.as_ptr(), text.len()) }
 }
 
+/// Whether the text is a method's name, `<init>` or `<clinit>` where that is allowed.
 #[inline]
 pub fn is_method_name(text: &[u8], init: bool, clinit: bool) -> bool {
     unsafe { c::nk_is_method_name(text.as_ptr(), text.len(), init, clinit) }
 }
 
+/// Whether the text is a module name.
 #[inline]
 pub fn is_module_name(text: &[u8]) -> bool {
     unsafe { c::nk_is_module_name(text.as_ptr(), text.len()) }
 }
 
+/// Whether the whole text is a field descriptor.
 #[inline]
 pub fn is_field_descriptor(text: &[u8]) -> bool {
     unsafe { c::nk_is_field_descriptor(text.as_ptr(), text.len()) }
 }
 
+/// Whether the whole text is an array descriptor.
 #[inline]
 pub fn is_array_descriptor(text: &[u8]) -> bool {
     unsafe { c::nk_is_array_descriptor(text.as_ptr(), text.len()) }
 }
 
+/// Whether the whole text is a return descriptor.
 #[inline]
 pub fn is_return_descriptor(text: &[u8]) -> bool {
     unsafe { c::nk_is_return_descriptor(text.as_ptr(), text.len()) }
 }
 
+/// Whether the whole text is a method descriptor.
 #[inline]
 pub fn is_method_descriptor(text: &[u8]) -> bool {
     unsafe { c::nk_is_method_descriptor(text.as_ptr(), text.len()) }
