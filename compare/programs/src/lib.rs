@@ -1,6 +1,9 @@
 //! What the programs share. Each module's first line says what it holds.
 #![deny(unsafe_code)]
 
+/// Our side: the library's functions over slices.
+pub use nikorepum::raw as station;
+
 pub mod codes;
 pub mod crate_side;
 pub mod edges;
@@ -8,7 +11,12 @@ pub mod model;
 pub mod pools;
 pub mod report;
 pub mod rng;
-pub mod station;
+pub mod text_model;
 
+/// The words of an instruction's record, of a switch entry, and of a descriptor's part.
 pub const RECORD: usize = 6;
 pub const ENTRY: usize = 2;
+pub const PART: usize = 4;
+
+/// Dimensions, letter, start and length of the class name.
+pub type Part = [u32; PART];
