@@ -1,17 +1,20 @@
 //! What the programs share. Each module's first line says what it holds.
 #![deny(unsafe_code)]
 
-/// Our side: the library's functions over slices.
-pub use nikorepum::raw as station;
-
 pub mod codes;
 pub mod crate_side;
+pub mod crate_texts;
 pub mod edges;
 pub mod model;
+pub mod parts;
 pub mod pools;
 pub mod report;
 pub mod rng;
+pub mod sides;
+pub mod station;
 pub mod text_model;
+pub mod text_runs;
+pub mod texts;
 
 /// The words of an instruction's record, of a switch entry, and of a descriptor's part.
 pub const RECORD: usize = 6;

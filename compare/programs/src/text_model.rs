@@ -302,3 +302,13 @@ pub fn is_array_descriptor(text: &[u8]) -> bool {
 pub fn is_method_descriptor(text: &[u8]) -> bool {
     method(text, Form::Whole, usize::MAX).is_ok()
 }
+
+/// How many parameters a method text has before its `)`, its end or its first fault.
+pub fn parameters_read(text: &[u8]) -> usize {
+    let (mut count, mut at) = (0, 1);
+    while at < text.len() && text[0] == b'(' {
+        let Ok((_, end)) = field_at(text, at) else { break };
+        (count, at) = (count + 1, end);
+    }
+    count
+}

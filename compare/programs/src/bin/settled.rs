@@ -1,5 +1,5 @@
 //! The settled examples of document 01 for code, with whole stores.
-use compare::report::{difference, unhex, words, Totals};
+use compare::report::{difference, shown_code, unhex, words, Totals};
 use compare::station::{decode, lookup, Answer};
 use compare::{ENTRY, RECORD};
 
@@ -105,7 +105,7 @@ fn main() {
             let got = (answer, records, entries);
             if (got != want || !found) && totals.unknown() {
                 let shown = |o: &(Answer, Vec<u32>, Vec<u32>)| format!("{:?} {}", o.0, words(&o.1, &o.2));
-                difference(example.name, &example.code, &shown(&got), &shown(&want));
+                difference(example.name, &shown_code(&example.code), &shown(&got), &shown(&want));
             }
         }
         println!("{}", example.name);
