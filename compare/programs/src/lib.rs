@@ -8,6 +8,7 @@ pub mod edges;
 pub mod model;
 pub mod parts;
 pub mod pools;
+pub mod references;
 pub mod report;
 pub mod rng;
 pub mod sides;

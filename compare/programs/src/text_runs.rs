@@ -5,6 +5,7 @@ use crate::rng::Rng;
 use crate::sides::{Call, Outcome, Side, OURS, PRINTS, READS, READS_METHOD, SAYS};
 use crate::texts::{self, Maker, Symbol, Symbols};
 use crate::{station, Part, PART};
+use std::collections::BTreeMap;
 
 /// The other side, and what it can be asked.
 pub struct Reference {
@@ -18,8 +19,8 @@ pub struct Reference {
     pub outputs: fn(usize) -> Vec<usize>,
     pub part: fn(&mut Rng, &[u8], bool) -> Part,
     pub method: fn(&mut Rng, &[u8]) -> Method,
-    /// Whether a difference is one of docs/DIFFERENCES.md: the call, ours, the other's.
-    pub is_known: fn(&Call, &Outcome, &Outcome) -> bool,
+    /// The difference of docs/DIFFERENCES.md that this is, if it is one: the call, ours, the other's.
+    pub known: fn(&Call, &Outcome, &Outcome) -> Option<&'static str>,
 }
 
 /// Texts of one sort.
@@ -32,6 +33,7 @@ pub struct Section<'a> {
     no: u64,
     accepted: u64,
     refusals: Refusals,
+    known: BTreeMap<&'static str, u64>,
     totals: Totals,
 }
 
@@ -46,6 +48,7 @@ impl<'a> Section<'a> {
             no: 0,
             accepted: 0,
             refusals: Refusals::default(),
+            known: BTreeMap::new(),
             totals: Totals::default(),
         }
     }
@@ -62,8 +65,9 @@ impl<'a> Section<'a> {
         if ours.agrees(&other) {
             return;
         }
-        if (self.reference.is_known)(call, &ours, &other) {
+        if let Some(name) = (self.reference.known)(call, &ours, &other) {
             self.totals.known += 1;
+            *self.known.entry(name).or_default() += 1;
         } else if self.totals.unknown() {
             self.report(call, text);
         }
@@ -77,7 +81,7 @@ impl<'a> Section<'a> {
         let small = shrunk(text, |text| {
             is_utf8(text) == is_utf8_given && {
                 let (ours, other) = both(text);
-                !ours.agrees(&other) && !(self.reference.is_known)(call, &ours, &other)
+                !ours.agrees(&other) && (self.reference.known)(call, &ours, &other).is_none()
             }
         });
         let (ours, other) = both(&small);
@@ -114,12 +118,12 @@ impl<'a> Section<'a> {
     }
 
     fn print(&mut self, i: usize, text: &[u8], part: Part) {
-        self.writing(text, printed_most(text, 1), |room| Call::Print(i, part, room));
+        self.writing(text, printed_most(text, &part), |room| Call::Print(i, part, room));
     }
 
     pub fn print_method(&mut self, text: &[u8], method: &Method) {
         let Method { records, count, returned } = method;
-        let most = printed_most(text, records.len() / PART + 1);
+        let most = printed_most(text, records) + printed_most(text, returned);
         self.writing(text, most, |room| Call::PrintMethod(records.clone(), *count, *returned, room));
     }
 
@@ -148,14 +152,18 @@ impl<'a> Section<'a> {
         println!("{}: {} calls on {} texts", self.sort, self.totals.cases, self.texts);
         println!("  yes {}, no {}, accepted {}", self.yes, self.no, self.accepted);
         println!("  refused {} ({})", self.refusals.all(), self.refusals);
+        for (name, times) in &self.known {
+            println!("  known difference, {name}: {times} times");
+        }
         println!("  differences: {} known, {} unknown", self.totals.known, self.totals.unknown);
         all.add(&self.totals);
     }
 }
 
-/// Enough bytes for so many parts printed, whatever class names of the text they have.
-fn printed_most(text: &[u8], parts: usize) -> usize {
-    parts * (text.len() + 258) + 2
+/// Enough bytes for these parts, and for `(` and `)`.
+fn printed_most(text: &[u8], parts: &[u32]) -> usize {
+    let most = |part: &[u32]| part[0].min(255) as usize + 2 + text.len().min(part[3] as usize);
+    parts.chunks_exact(PART).map(most).sum::<usize>() + 2
 }
 
 /// The first words or bytes of what was lent.
@@ -204,10 +212,10 @@ fn special_names(reference: &Reference, all: &mut Totals) {
     let mut section = Section::new(reference, "neighbours of <init> and <clinit>", 150_000);
     for name in [&b"<init>"[..], b"<clinit>"] {
         section.checks(name);
-        texts::neighbours(name, &reference.symbols.all).iter().for_each(|text| section.checks(text));
-        for near in texts::neighbours(name, &special) {
-            texts::neighbours(&near, &special).iter().for_each(|text| section.checks(text));
-        }
+        let near = texts::neighbours(name, &special);
+        let twice = near.iter().flat_map(|near| texts::neighbours(near, &special));
+        let once = texts::neighbours(name, &reference.symbols.all).into_iter();
+        once.chain(twice).filter_map(reference.taken).for_each(|text| section.checks(&text));
     }
     section.finish(all);
 }
@@ -235,6 +243,16 @@ fn limits(reference: &Reference, all: &mut Totals) {
     section.finish(all);
 }
 
+/// A field, a return and a method of parts that the side can be asked for.
+fn print_some(section: &mut Section, rng: &mut Rng, text: &[u8]) {
+    for (print, is_return) in [false, true].into_iter().enumerate() {
+        let part = (section.reference.part)(rng, text, is_return);
+        section.print(print, text, part);
+    }
+    let method = (section.reference.method)(rng, text);
+    section.print_method(text, &method);
+}
+
 /// Parts printed from texts that hold class names.
 fn printings(reference: &Reference, seed: u64, count: u64, all: &mut Totals) {
     let mut rng = Rng::new(seed);
@@ -247,20 +265,17 @@ fn printings(reference: &Reference, seed: u64, count: u64, all: &mut Totals) {
         }
         let Some(text) = (reference.taken)(made) else { continue };
         section.text();
-        for (print, is_return) in [false, true].into_iter().enumerate() {
-            let part = (reference.part)(&mut rng, &text, is_return);
-            section.print(print, &text, part);
-        }
-        let method = (reference.method)(&mut rng, &text);
-        section.print_method(&text, &method);
+        print_some(&mut section, &mut rng, &text);
     }
     section.finish(all);
 }
 
-/// Parts that name a whole long text, once and twice.
-fn long_printings(reference: &Reference, all: &mut Totals) {
+/// Parts that name a whole long text, once and twice, and others.
+fn long_printings(reference: &Reference, seed: u64, all: &mut Totals) {
+    let mut rng = Rng::new(seed);
     let sizes = [32_760, 32_764, 32_765, 65_279, 65_280, 65_531, 65_532, 65_533, 65_534, 65_535, 65_536];
-    let mut section = Section::new(reference, "printings of long names", sizes.len() as u64);
+    let sort = format!("printings from long texts, seed {seed}");
+    let mut section = Section::new(reference, &sort, sizes.len() as u64);
     for bytes in sizes {
         let Some(text) = (reference.taken)(vec![b'a'; bytes]) else { continue };
         section.text();
@@ -272,6 +287,7 @@ fn long_printings(reference: &Reference, all: &mut Totals) {
                 section.print_method(&text, &Method { records, count, returned: part });
             }
         }
+        (0..100).for_each(|_| print_some(&mut section, &mut rng, &text));
     }
     section.finish(all);
 }
@@ -320,7 +336,7 @@ pub fn everything(reference: &Reference, seed: u64, count: u64) -> Totals {
     limits(reference, &mut all);
     built(reference, seed, count, &mut all);
     printings(reference, seed, count, &mut all);
-    long_printings(reference, &mut all);
+    long_printings(reference, seed, &mut all);
     identifiers(reference, seed, count, &mut all);
     long_identifiers(reference, &mut all);
     all
