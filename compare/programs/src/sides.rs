@@ -3,14 +3,21 @@ use crate::crate_texts::REFUSED;
 use crate::station::{Answer, Parts};
 use crate::{crate_texts, station, text_model, Part};
 
+/// With the parameter store.
+type ReadMethod = fn(&[u8], &mut [u32]) -> Parts;
+/// With the text that the part points into, and the output.
+type Print = fn(&[u8], Part, &mut [u8]) -> Answer;
+/// With the text, the records, how many of them, the return and the output.
+type PrintMethod = fn(&[u8], &[u32], u64, Part, &mut [u8]) -> Answer;
+
 /// The functions of one side, each at the same place on all sides.
 pub struct Side {
     says: [fn(&[u8]) -> bool; 11],
     reads: [fn(&[u8]) -> Parts; 5],
-    reads_method: [fn(&[u8], &mut [u32]) -> Parts; 2],
+    reads_method: [ReadMethod; 2],
     class_name: fn(&[u8]) -> Answer,
-    prints: [fn(&[u8], Part, &mut [u8]) -> Answer; 2],
-    print_method: fn(&[u8], &[u32], u64, Part, &mut [u8]) -> Answer,
+    prints: [Print; 2],
+    print_method: PrintMethod,
     identifier: fn(&[u8], &[u8], &mut [u8]) -> Answer,
 }
 
