@@ -80,7 +80,7 @@ fn written(answer: Output) -> Answer
     }
 }
 
-fn parts(part: FieldDescriptor, parameters: u32, used: u64) -> Parts
+fn parts_of(part: FieldDescriptor, parameters: u32, used: u64) -> Parts
     ensures { λ r. ⌜ r ≡ partsOf part parameters used ⌝ }
 {
     Parts {
@@ -114,7 +114,7 @@ fn field_parts(answer: Field) -> Parts
     ensures { λ r. ⌜ r ≡ fieldParts answer ⌝ }
 {
     match answer {
-        Field::Parsed(part, used) => parts(part, 0, used as u64),
+        Field::Parsed(part, used) => parts_of(part, 0, used as u64),
         Field::Refused(number, place) => no_parts(number, place as u64),
     }
 }
@@ -125,7 +125,7 @@ fn method_parts(answer: Method) -> Parts
     ensures { λ r. ⌜ r ≡ methodParts answer ⌝ }
 {
     match answer {
-        Method::Parsed(parameters, part, used) => parts(part, parameters as u32, used as u64),
+        Method::Parsed(parameters, part, used) => parts_of(part, parameters as u32, used as u64),
         Method::Refused(number, place) => no_parts(number, place as u64),
     }
 }
@@ -170,18 +170,6 @@ pub extern "C" fn nk_class_name(text: &[u8]) -> Answer
     }
 }
 
-// The four words of a part, as C passes them.
-fn part(dimensions: u32, letter: u32, name_start: u32, name_length: u32) -> FieldDescriptor
-    ensures { λ r. ⌜ r ≡ partOf dimensions letter «name_start» «name_length» ⌝ }
-{
-    FieldDescriptor {
-        dimensions,
-        letter,
-        start: name_start,
-        length: name_length,
-    }
-}
-
 // The functions that write have the length as `first`.
 #[no_mangle]
 pub extern "C" fn nk_print_field(
@@ -195,7 +183,12 @@ pub extern "C" fn nk_print_field(
     ensures answers { λ r. ⌜ r ≡ outputAnswer (printField (now (text .entry)) (partOf dimensions letter «name_start» «name_length») (length (now (out .entry)))) ⌝ }
     ensures writes { λ r. ⌜ now (out .exit) ≡ fieldOutput (now (text .entry)) (partOf dimensions letter «name_start» «name_length») (now (out .entry)) ⌝ }
 {
-    let part = part(dimensions, letter, name_start, name_length);
+    let part = FieldDescriptor {
+        dimensions,
+        letter,
+        start: name_start,
+        length: name_length,
+    };
     written(printing::print_field(text, part, out))
 }
 
@@ -211,7 +204,12 @@ pub extern "C" fn nk_print_return(
     ensures answers { λ r. ⌜ r ≡ outputAnswer (printReturn (now (text .entry)) (partOf dimensions letter «name_start» «name_length») (length (now (out .entry)))) ⌝ }
     ensures writes { λ r. ⌜ now (out .exit) ≡ returnOutput (now (text .entry)) (partOf dimensions letter «name_start» «name_length») (now (out .entry)) ⌝ }
 {
-    let part = part(dimensions, letter, name_start, name_length);
+    let part = FieldDescriptor {
+        dimensions,
+        letter,
+        start: name_start,
+        length: name_length,
+    };
     written(printing::print_return(text, part, out))
 }
 
@@ -229,7 +227,12 @@ pub extern "C" fn nk_print_method(
     ensures answers { λ r. ⌜ r ≡ outputAnswer (printMethod (now (text .entry)) (now (parameters .entry)) count (partOf dimensions letter «name_start» «name_length») (length (now (out .entry)))) ⌝ }
     ensures writes { λ r. ⌜ now (out .exit) ≡ methodOutput (now (text .entry)) (now (parameters .entry)) count (partOf dimensions letter «name_start» «name_length») (now (out .entry)) ⌝ }
 {
-    let returned = part(dimensions, letter, name_start, name_length);
+    let returned = FieldDescriptor {
+        dimensions,
+        letter,
+        start: name_start,
+        length: name_length,
+    };
     written(method_printing::print_method(text, parameters, count as usize, returned, out))
 }
 
@@ -275,7 +278,7 @@ pub extern "C" fn nk_array(text: &[u8]) -> Parts
     ensures { λ r. ⌜ r ≡ arrayParts (length (now (text .entry))) (arrayText (now (text .entry))) ⌝ }
 {
     match descriptors::array_whole(text) {
-        Array::Parsed(part) => parts(part, 0, text.len() as u64),
+        Array::Parsed(part) => parts_of(part, 0, text.len() as u64),
         Array::NotArray => no_parts(0, 0),
         Array::Refused(number, place) => no_parts(number, place as u64),
     }
