@@ -14,10 +14,10 @@ use crate::list::past;
 use crate::list::read_bytes;
 use crate::list::read_number;
 use crate::list::read_words;
+use crate::list::room;
 use crate::list::start;
-use crate::station;
-use crate::station::Answer;
-use crate::station::Parts;
+use station::Answer;
+use station::Parts;
 ghost use mathlib.Core.Path.{_≡_};
 ghost use lib.ListN.{length};
 
@@ -35,13 +35,6 @@ fn words() -> [u32; 16384]
     ensures { λ r. ⌜ 16384 ≡ length r ⌝ }
 {
     [0; 16384]
-}
-
-// Room for the longest output, of an identifier.
-fn output() -> [u8; 131072]
-    ensures { λ r. ⌜ 131072 ≡ length r ⌝ }
-{
-    [0; 131072]
 }
 
 // Whether the line that starts here has this name.
@@ -217,7 +210,7 @@ fn print_case(list: &[u8], line: usize, from: Cursor) -> Trial {
     let text = read_bytes(list, from, &mut texts);
     let end = text.count;
     let part = read_part(list, text.after);
-    let mut outputs = output();
+    let mut outputs = room();
     let out = read_bytes(list, part.after, &mut outputs);
     let room = out.count;
     run_print(
@@ -251,16 +244,26 @@ fn print_method_case(list: &[u8], from: Cursor) -> Trial {
     let mut parameters = words();
     let parameter = read_words(list, text.after, &mut parameters);
     let parameters_end = parameter.count;
-    let count = read_number(list, parameter.after);
+    print_method_in(
+        list,
+        parameter.after,
+        &texts[..end],
+        &parameters[..parameters_end],
+    )
+}
+
+// The case from COUNT on.
+fn print_method_in(list: &[u8], from: Cursor, text: &[u8], parameters: &[u32]) -> Trial {
+    let count = read_number(list, from);
     let part = read_part(list, close(list, count.after));
-    let mut outputs = output();
+    let mut outputs = room();
     let out = read_bytes(list, part.after, &mut outputs);
     let room = out.count;
     run_print_method(
         list,
         out.after,
-        &texts[..end],
-        &parameters[..parameters_end],
+        text,
+        parameters,
         count.value,
         part,
         &mut outputs[..room],
@@ -298,7 +301,7 @@ fn identifier_case(list: &[u8], from: Cursor) -> Trial {
     let mut descriptors = io::large_buffer();
     let descriptor = read_bytes(list, name.after, &mut descriptors);
     let descriptor_end = descriptor.count;
-    let mut outputs = output();
+    let mut outputs = room();
     let out = read_bytes(list, descriptor.after, &mut outputs);
     let room = out.count;
     run_identifier(

@@ -5,8 +5,8 @@ use crate::list::HEXADECIMAL;
 use crate::list::Next;
 use crate::list::close;
 use crate::list::next_number;
-use crate::station::Answer;
-use crate::station::Parts;
+use station::Answer;
+use station::Parts;
 
 pub enum Verdict {
     Agrees,

@@ -1,6 +1,7 @@
 // The numbers of the fixed list. A line is the name of an entry and then sections of numbers, parted by `:` or `=`. A number
 // is decimal, in a section of bytes hexadecimal; `9*27` is the number 9, 27 times; "La/;" is each of its bytes.
-ghost use Prim.Native.Nat.{_≤_, _<_};
+ghost use Prim.Native.Nat.{_<_};
+ghost use mathlib.Core.Path.{_≡_};
 ghost use lib.ListN.{length};
 ghost use Rattle.io.specs.Counts.{Counts};
 
@@ -35,6 +36,13 @@ pub struct Single {
 pub struct Section {
     pub count: usize,
     pub after: Cursor,
+}
+
+// Room for the longest file of the list, and for the longest output in it.
+pub fn room() -> [u8; 131072]
+    ensures { λ r. ⌜ 131072 ≡ length r ⌝ }
+{
+    [0; 131072]
 }
 
 pub fn start(at: usize) -> Cursor {

@@ -3,11 +3,12 @@
 mod cases;
 mod expect;
 mod list;
-mod station;
 
 use expect::Trial;
 use expect::Verdict;
 use libc::STDOUT_FILENO;
+use list::byte_at;
+use list::room;
 ghost use Prim.Native.Nat.{_≤_, _<_};
 ghost use mathlib.Core.Path.{_≡_};
 ghost use lib.ListN.{length};
@@ -33,13 +34,6 @@ fn one_more(count: u64) -> u64 {
     if count < u64::MAX { count + 1 } else { count }
 }
 
-// Room for the longest file of the list.
-fn list_room() -> [u8; 1048576]
-    ensures { λ r. ⌜ 1048576 ≡ length r ⌝ }
-{
-    [0; 1048576]
-}
-
 fn count_refusal(refusals: &mut [u64; 36], number: u32) {
     let at = number as usize;
     if at < NUMBERS {
@@ -63,6 +57,15 @@ fn next_line(list: &[u8], line: usize) -> usize
     at
 }
 
+// Whether the answer agrees to the end of the line.
+fn is_good(list: &[u8], trial: Trial) -> bool {
+    let verdict = trial.verdict;
+    let Verdict::Agrees = verdict else {
+        return false;
+    };
+    byte_at(list, trial.cursor.at) == b'\n'
+}
+
 fn print_verdict(verdict: Verdict) {
     match verdict {
         Verdict::Agrees => print(b"the line goes on"),
@@ -82,8 +85,97 @@ fn print_difference(name: &[u8], number: u64, line: usize, trial: Trial) {
     print(b":");
     print_number(std::num::wrapping_sub_usize(trial.cursor.at, line) as u64);
     print(b": ");
-    print_verdict(trial.verdict);
+    let verdict = trial.verdict;
+    print_verdict(verdict);
     print(b"\n");
 }
 
-fn main() {}
+// The case of one line; a line that starts with `#` is a comment.
+fn run_line(
+    name: &[u8],
+    number: u64,
+    list: &[u8],
+    line: usize,
+    before: Totals,
+    refusals: &mut [u64; 36],
+) -> Totals {
+    if byte_at(list, line) == b'#' {
+        return before;
+    }
+    let trial = cases::run(list, line);
+    count_refusal(refusals, trial.refusal);
+    let cases = one_more(before.cases);
+    if is_good(list, trial) {
+        return Totals {
+            cases,
+            differing: before.differing,
+        };
+    }
+    print_difference(name, number, line, trial);
+    Totals {
+        cases,
+        differing: one_more(before.differing),
+    }
+}
+
+fn run_lines(name: &[u8], list: &[u8], before: Totals, refusals: &mut [u64; 36]) -> Totals {
+    let mut totals = before;
+    let mut number = 1;
+    let mut line = 0;
+    while line < list.len() {
+        totals = run_line(name, number, list, line, totals, refusals);
+        number = one_more(number);
+        line = next_line(list, line);
+    }
+    totals
+}
+
+// A file that cannot be read has no cases, and the counts then tell.
+fn run_file(name: &[u8], before: Totals, refusals: &mut [u64; 36]) -> Totals {
+    let mut room = room();
+    let file = os::open_read(name);
+    let length = io::read_full(file, &mut room);
+    libc::close(file);
+    let after = run_lines(name, &room[..length], before, refusals);
+    print(name);
+    print(b": ");
+    print_number(std::num::wrapping_sub_u64(after.cases, before.cases));
+    print(b" cases\n");
+    after
+}
+
+fn print_refusals(refusals: &[u64; 36]) {
+    print(b"refusals:");
+    let mut number = 1;
+    while number < NUMBERS {
+        print_refusal(number as u64, refusals[number]);
+        number += 1;
+    }
+    print(b"\n");
+}
+
+// Document 01 leaves numbers out, which no answer has.
+fn print_refusal(number: u64, count: u64) {
+    if count > 0 {
+        print(b" ");
+        print_number(number);
+        print(b": ");
+        print_number(count);
+        print(b",");
+    }
+}
+
+fn main() {
+    let mut refusals = [0u64; 36];
+    let none = Totals {
+        cases: 0,
+        differing: 0,
+    };
+    let settled = run_file(b"settled", none, &mut refusals);
+    let codes = run_file(b"codes", settled, &mut refusals);
+    print_refusals(&refusals);
+    print_number(codes.cases);
+    print(b" cases, ");
+    print_number(codes.differing);
+    print(b" differ\n");
+}
