@@ -4,7 +4,7 @@ use cafebabe::visible::Pool;
 use compare::codes::{large, small, Tagged};
 use compare::crate_side::{self, Indices};
 use compare::pools::{self, MadePool};
-use compare::report::{difference, number, shrunk, words, Progress, Refusals, Totals};
+use compare::report::{difference, number, shown_code, shrunk, words, Progress, Refusals, Totals};
 use compare::rng::Rng;
 use compare::station::{self, Answer};
 use compare::{edges, ENTRY, RECORD};
@@ -212,9 +212,9 @@ impl<'a> Section<'a> {
         let small = shrunk(code, differs);
         match judge_alone(&small, self.made, self.which) {
             Verdict::Different(what, ours, theirs) => {
-                difference(&format!("{what}, pool of {}", self.made.name), &small, &ours, &theirs)
+                difference(&format!("{what}, pool of {}", self.made.name), &shown_code(&small), &ours, &theirs)
             }
-            _ => difference("not the same twice", code, "", ""),
+            _ => difference("not the same twice", &shown_code(code), "", ""),
         }
     }
 

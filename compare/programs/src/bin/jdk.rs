@@ -184,7 +184,7 @@ fn compare(classes: &[Class]) -> Counts {
             if let Some(theirs) = difference(code, &class.tags, &pool, &mut stores, &mut counts) {
                 let ours = station::decode(code, &class.tags, &mut stores.records, &mut stores.entries);
                 if counts.totals.unknown() {
-                    report::difference("a real method", code, &format!("{ours:?}"), &theirs);
+                    report::difference("a real method", &report::shown_code(code), &format!("{ours:?}"), &theirs);
                 }
                 stores = Stores::new();
             }
