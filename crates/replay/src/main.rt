@@ -16,6 +16,9 @@ ghost use lib.ListN.{length};
 // How many numbers an answer may have: 0, and the refusals up to 35.
 const NUMBERS: usize = 36;
 
+// How many files `run_nth` knows.
+const FILES: usize = 12;
+
 struct Totals {
     cases: u64,
     differing: u64,
@@ -154,28 +157,53 @@ fn print_refusals(refusals: &[u64; 36]) {
     print(b"\n");
 }
 
-// Document 01 leaves numbers out, which no answer has.
+// Document 01 leaves out some numbers, which no answer has.
 fn print_refusal(number: u64, count: u64) {
     if count > 0 {
         print(b" ");
         print_number(number);
-        print(b": ");
+        print(b":");
         print_number(count);
-        print(b",");
     }
+}
+
+// The files of the list.
+fn run_nth(file: usize, before: Totals, refusals: &mut [u64; 36]) -> Totals {
+    match file {
+        0 => run_file(b"settled", before, refusals),
+        1 => run_file(b"edges", before, refusals),
+        2 => run_file(b"limits", before, refusals),
+        3 => run_file(b"codes", before, refusals),
+        4 => run_file(b"more_codes", before, refusals),
+        5 => run_file(b"lookups", before, refusals),
+        6 => run_file(b"descriptors", before, refusals),
+        7 => run_file(b"methods", before, refusals),
+        8 => run_file(b"printing", before, refusals),
+        9 => run_file(b"method_printing", before, refusals),
+        10 => run_file(b"identifiers", before, refusals),
+        _ => run_file(b"checks", before, refusals),
+    }
+}
+
+fn run_all(refusals: &mut [u64; 36]) -> Totals {
+    let mut totals = Totals {
+        cases: 0,
+        differing: 0,
+    };
+    let mut file = 0;
+    while file < FILES {
+        totals = run_nth(file, totals, refusals);
+        file += 1;
+    }
+    totals
 }
 
 fn main() {
     let mut refusals = [0u64; 36];
-    let none = Totals {
-        cases: 0,
-        differing: 0,
-    };
-    let settled = run_file(b"settled", none, &mut refusals);
-    let codes = run_file(b"codes", settled, &mut refusals);
+    let totals = run_all(&mut refusals);
     print_refusals(&refusals);
-    print_number(codes.cases);
+    print_number(totals.cases);
     print(b" cases, ");
-    print_number(codes.differing);
+    print_number(totals.differing);
     print(b" differ\n");
 }
