@@ -1,6 +1,7 @@
 //! What the programs share. Each module's first line says what it holds.
 #![deny(unsafe_code)]
 
+pub mod classes;
 pub mod codes;
 pub mod crate_side;
 pub mod crate_texts;

@@ -127,13 +127,13 @@ impl<'a> Section<'a> {
         self.writing(text, most, |room| Call::PrintMethod(records.clone(), *count, *returned, room));
     }
 
-    fn identifier(&mut self, name: &[u8], descriptor: &[u8]) {
+    pub fn identifier(&mut self, name: &[u8], descriptor: &[u8]) {
         self.text();
         self.writing(name, name.len() + descriptor.len(), |room| Call::Identifier(descriptor.to_vec(), room));
     }
 
     /// Printed from the parts that were read, in each form whose whole text it is.
-    fn printed_back(&mut self, text: &[u8]) {
+    pub fn printed_back(&mut self, text: &[u8]) {
         for (i, read) in [station::field_whole(text), station::return_whole(text)].iter().enumerate() {
             if read.number == 0 {
                 self.print(i, text, [read.dimensions, read.letter, read.start, read.length]);
