@@ -171,10 +171,10 @@ fn print_refusal(number: u64, count: u64) {
 fn run_nth(file: usize, before: Totals, refusals: &mut [u64; 36]) -> Totals {
     match file {
         0 => run_file(b"settled", before, refusals),
-        1 => run_file(b"edges", before, refusals),
-        2 => run_file(b"limits", before, refusals),
-        3 => run_file(b"codes", before, refusals),
-        4 => run_file(b"more_codes", before, refusals),
+        1 => run_file(b"bytes", before, refusals),
+        2 => run_file(b"edges", before, refusals),
+        3 => run_file(b"limits", before, refusals),
+        4 => run_file(b"codes", before, refusals),
         5 => run_file(b"lookups", before, refusals),
         6 => run_file(b"descriptors", before, refusals),
         7 => run_file(b"methods", before, refusals),

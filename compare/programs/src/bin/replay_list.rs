@@ -55,10 +55,24 @@ fn edge_codes(rng: &mut Rng) -> List {
     let mut list = List::new("edges");
     let pool = pools::each().tags;
     for code in edges::short().iter().step_by(9) {
-        decode(&mut list, rng, code, &pool[..rng.pick(&[0, 1, 8])]);
+        let entries = rng.pick(&[0, 1, 8]);
+        decode(&mut list, rng, code, &pool[..entries]);
     }
-    for op in 0..=255 {
-        decode(&mut list, rng, &[op, 0, 1, 0, 0], &[0, 7, 9]);
+    list
+}
+
+/// Every byte as an instruction, after wide and as newarray's tag; some where a byte is to be 0.
+fn every_byte(rng: &mut Rng) -> List {
+    let mut list = List::new("bytes");
+    for byte in 0..=255 {
+        decode(&mut list, rng, &[byte, 0, 1, 0, 0], &[0, 7, 9]);
+        decode(&mut list, rng, &[0xc4, byte, 0, 1, 0], &[]);
+        decode(&mut list, rng, &[0xbc, byte], &[]);
+        if byte % 15 == 0 {
+            decode(&mut list, rng, &[0xb9, 0, 1, 2, byte], &[0, 11]);
+            decode(&mut list, rng, &[0xba, 0, 1, byte, 0], &[0, 18]);
+            decode(&mut list, rng, &[0xba, 0, 1, 0, byte], &[0, 18]);
+        }
     }
     list
 }
@@ -92,9 +106,9 @@ fn any_pool(rng: &mut Rng, i: usize) -> Vec<u8> {
 }
 
 /// Built codes over any pool; every second one is damaged, some have a bad target, index or byte.
-fn built_codes(name: &'static str, rng: &mut Rng, count: usize) -> List {
-    let mut list = List::new(name);
-    for i in 0..count {
+fn built_codes(rng: &mut Rng) -> List {
+    let mut list = List::new("codes");
+    for i in 0..900 {
         let pool = any_pool(rng, i);
         let shape = Shape {
             instructions: [2, 4, 8, 12][i % 4],
@@ -152,11 +166,14 @@ fn filled(before: &str, with: u8, after: &str, bytes: usize) -> Vec<u8> {
 
 /// Texts about the limit of bytes, and types about that of dimensions.
 fn long_texts() -> Vec<Vec<u8>> {
-    let shapes = [("", b'a', ""), ("", b'a', ";"), ("L", b'a', ";"), ("L", b'a', "/;"), ("[[L", b'a', ";I"), ("L", b'a', "")];
+    let shapes =
+        [("", b'a', ""), ("", b'a', ";"), ("L", b'a', ";"), ("L", b'a', "/;"), ("[[L", b'a', ";I"), ("L", b'a', "")];
     let methods = [("(L", b'a', ";)V"), ("()L", b'a', ";"), ("()[[L", b'a', ";I")];
     let arrays = [("", "I"), ("", "La;"), ("", "V"), ("", ""), ("(", "I)V"), ("(I", "La;)I"), ("()", "I"), ("()", "V")];
     let about = |(before, with, after)| [LIMIT - 1, LIMIT, LIMIT + 1].map(|bytes| filled(before, with, after, bytes));
-    let deep = |(before, after): (&str, &str)| [254, 255, 256].map(|n| filled(before, b'[', after, n + before.len() + after.len()));
+    let deep = |(before, after): (&str, &str)| {
+        [254, 255, 256].map(|n| filled(before, b'[', after, n + before.len() + after.len()))
+    };
     let long = shapes.into_iter().chain(methods).flat_map(about);
     long.chain(arrays.into_iter().flat_map(deep)).collect()
 }
@@ -198,7 +215,7 @@ fn methods(rng: &mut Rng) -> List {
     let around = [("", "", 37), ("(", ")V", 13), ("([I", ")V", 31), ("(La", ";)V", 23), ("()", "", 11), ("(", "", 29)];
     let short = around.into_iter().flat_map(|(before, after, one_in)| short_texts(before, after, one_in));
     let built: Vec<_> = (0..160).map(|i| Maker { rng, high: &[0xff] }.any(6 + i % 4)).collect();
-    let many = [255, 256, 1000].map(|count| filled("(", b'I', ")V", count + 3));
+    let many = [255, 256].map(|count| filled("(", b'I', ")V", count + 3));
     for text in short.chain(built).chain(many).chain(long_texts()) {
         method(&mut list, rng, &text);
     }
@@ -225,7 +242,9 @@ fn printing(rng: &mut Rng) -> List {
         }
     }
     // The longest name that can be printed has two bytes less than a text may have.
-    for (bytes, dimensions) in [(LIMIT - 3, 0), (LIMIT - 2, 0), (LIMIT - 2, 1), (LIMIT - 1, 0), (LIMIT, 255), (LIMIT + 1, 0)] {
+    for (bytes, dimensions) in
+        [(LIMIT - 3, 0), (LIMIT - 2, 0), (LIMIT - 2, 1), (LIMIT - 1, 0), (LIMIT, 255), (LIMIT + 1, 0)]
+    {
         for room in [0, LIMIT - 1, LIMIT, LIMIT + 9] {
             list.print(&vec![b'a'; bytes], [dimensions, b'L' as u32, 0, bytes as u32], &vec![b'#'; room]);
         }
@@ -290,7 +309,8 @@ fn checks(rng: &mut Rng) -> List {
     let long = [LIMIT - 1, LIMIT, LIMIT + 1].map(|bytes| vec![b'a'; bytes]);
     names.chain(near).chain(every).chain(long).for_each(|name| list.name_checks(&name));
     let built: Vec<_> = (0..100).map(|i| built_text(rng, i)).collect();
-    let short = [("", ""), ("(", ")V"), ("L", ";")].into_iter().flat_map(|(before, after)| short_texts(before, after, 31));
+    let short =
+        [("", ""), ("(", ")V"), ("L", ";")].into_iter().flat_map(|(before, after)| short_texts(before, after, 31));
     short.chain(built).chain(long_texts()).for_each(|text| list.descriptor_checks(&text));
     list
 }
@@ -311,10 +331,10 @@ fn main() {
     let folder = std::env::args().nth(1).expect("usage: replay_list FOLDER");
     let rng = &mut Rng::new(SEED);
     let lists = [
+        every_byte(rng),
         edge_codes(rng),
         limits(rng),
-        built_codes("codes", rng, 300),
-        built_codes("more_codes", rng, 300),
+        built_codes(rng),
         lookups(rng),
         descriptors(rng),
         methods(rng),
@@ -324,7 +344,8 @@ fn main() {
         checks(rng),
     ];
     for list in &lists {
-        let head = format!("# Made by compare/run replay-list, seed {SEED}. Every answer is that of the model in compare/.\n");
+        let head =
+            format!("# Made by compare/run replay-list, seed {SEED}. Every answer is that of the model in compare/.\n");
         let file = list.file(&head);
         std::fs::write(format!("{folder}/{}", list.name), &file).expect("the folder can be written");
         println!("{}: {} cases, {} bytes", list.name, list.cases(), file.len());
