@@ -100,14 +100,6 @@ fn lookup_case(list: &[u8], from: Cursor) -> Trial {
     expect_answer(list, close(list, offset.after), answer)
 }
 
-// class_name TEXT = ANSWER
-fn class_name_case(list: &[u8], from: Cursor) -> Trial {
-    let mut texts = io::large_buffer();
-    let text = read_bytes(list, from, &mut texts);
-    let end = text.count;
-    expect_answer(list, text.after, station::nk_class_name(&texts[..end]))
-}
-
 fn parts_of(list: &[u8], line: usize, text: &[u8]) -> Parts {
     if is_named(list, line, b"field_prefix ") {
         return station::nk_field_prefix(text);
@@ -122,14 +114,6 @@ fn parts_of(list: &[u8], line: usize, text: &[u8]) -> Parts {
         return station::nk_return_whole(text);
     }
     station::nk_array(text)
-}
-
-// field_prefix TEXT = PARTS, and likewise field_whole, return_prefix, return_whole and array
-fn descriptor_case(list: &[u8], line: usize, from: Cursor) -> Trial {
-    let mut texts = io::large_buffer();
-    let text = read_bytes(list, from, &mut texts);
-    let end = text.count;
-    expect_parts(list, text.after, parts_of(list, line, &texts[..end]))
 }
 
 fn method_parts(list: &[u8], line: usize, text: &[u8], parameters: &mut [u32]) -> Parts {
@@ -351,23 +335,35 @@ fn is_descriptor(list: &[u8], line: usize, text: &[u8]) -> bool {
     station::nk_is_method_descriptor(text)
 }
 
-// is_binary_name TEXT = YES, and likewise every other check of a text alone
-fn check_case(list: &[u8], line: usize, from: Cursor) -> Trial {
-    let mut texts = io::large_buffer();
-    let text = read_bytes(list, from, &mut texts);
-    let end = text.count;
-    expect_yes(list, text.after, is_name(list, line, &texts[..end]))
+// is_method_name TEXT : INIT CLINIT = YES
+fn run_method_name(list: &[u8], after: Cursor, text: &[u8]) -> Trial {
+    let init = read_number(list, after);
+    let clinit = read_number(list, init.after);
+    let yes = station::nk_is_method_name(text, init.value == 1, clinit.value == 1);
+    expect_yes(list, close(list, clinit.after), yes)
 }
 
-// is_method_name TEXT : INIT CLINIT = YES
-fn method_name_case(list: &[u8], from: Cursor) -> Trial {
+// class_name TEXT = ANSWER
+// field_prefix TEXT = PARTS, and likewise field_whole, return_prefix, return_whole and array
+// is_binary_name TEXT = YES, and likewise every other check but that of a method's name
+fn run_text(list: &[u8], line: usize, after: Cursor, text: &[u8]) -> Trial {
+    if is_named(list, line, b"is_method_name ") {
+        return run_method_name(list, after, text);
+    }
+    if is_named(list, line, b"is_") {
+        return expect_yes(list, after, is_name(list, line, text));
+    }
+    if is_named(list, line, b"class_name ") {
+        return expect_answer(list, after, station::nk_class_name(text));
+    }
+    expect_parts(list, after, parts_of(list, line, text))
+}
+
+fn text_case(list: &[u8], line: usize, from: Cursor) -> Trial {
     let mut texts = io::large_buffer();
     let text = read_bytes(list, from, &mut texts);
     let end = text.count;
-    let init = read_number(list, text.after);
-    let clinit = read_number(list, init.after);
-    let yes = station::nk_is_method_name(&texts[..end], init.value == 1, clinit.value == 1);
-    expect_yes(list, close(list, clinit.after), yes)
+    run_text(list, line, text.after, &texts[..end])
 }
 
 // The place after a line's name.
@@ -391,9 +387,6 @@ pub fn run(list: &[u8], line: usize) -> Trial {
     if is_named(list, line, b"lookup ") {
         return lookup_case(list, from);
     }
-    if is_named(list, line, b"class_name ") {
-        return class_name_case(list, from);
-    }
     if is_named(list, line, b"method_") {
         return method_case(list, line, from);
     }
@@ -406,11 +399,5 @@ pub fn run(list: &[u8], line: usize) -> Trial {
     if is_named(list, line, b"identifier ") {
         return identifier_case(list, from);
     }
-    if is_named(list, line, b"is_method_name ") {
-        return method_name_case(list, from);
-    }
-    if is_named(list, line, b"is_") {
-        return check_case(list, line, from);
-    }
-    descriptor_case(list, line, from)
+    text_case(list, line, from)
 }

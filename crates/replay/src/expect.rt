@@ -24,7 +24,7 @@ pub struct Trial {
     pub verdict: Verdict,
 }
 
-pub fn begin(refusal: u32, cursor: Cursor) -> Trial {
+fn begin(refusal: u32, cursor: Cursor) -> Trial {
     Trial {
         refusal,
         cursor,
@@ -48,7 +48,7 @@ fn compared(expected: u64, answered: u64) -> Verdict {
     }
 }
 
-pub fn expect(list: &[u8], trial: Trial, base: u64, answered: u64) -> Trial {
+fn expect(list: &[u8], trial: Trial, base: u64, answered: u64) -> Trial {
     let verdict = trial.verdict;
     let Verdict::Agrees = verdict else {
         return trial;
@@ -60,7 +60,7 @@ pub fn expect(list: &[u8], trial: Trial, base: u64, answered: u64) -> Trial {
 }
 
 // The section is to end here.
-pub fn expect_end(list: &[u8], trial: Trial) -> Trial {
+fn expect_end(list: &[u8], trial: Trial) -> Trial {
     let verdict = trial.verdict;
     let Verdict::Agrees = verdict else {
         return trial;
@@ -71,63 +71,73 @@ pub fn expect_end(list: &[u8], trial: Trial) -> Trial {
     }
 }
 
-fn expect_number(list: &[u8], trial: Trial, answered: u64) -> Trial {
-    expect(list, trial, DECIMAL, answered)
-}
-
-fn expect_word(list: &[u8], trial: Trial, answered: u32) -> Trial {
-    expect(list, trial, DECIMAL, answered as u64)
-}
-
-fn expect_byte(list: &[u8], trial: Trial, answered: u8) -> Trial {
-    expect(list, trial, HEXADECIMAL, answered as u64)
-}
-
-pub fn expect_answer(list: &[u8], cursor: Cursor, answer: Answer) -> Trial {
-    let number = expect_word(list, begin(answer.number, cursor), answer.number);
-    let second = expect_word(list, number, answer.second);
-    let place = expect_number(list, second, answer.place);
-    let first = expect_number(list, place, answer.first);
-    let next = expect_number(list, first, answer.next);
-    expect_end(list, next)
-}
-
-pub fn expect_parts(list: &[u8], cursor: Cursor, parts: Parts) -> Trial {
-    let number = expect_word(list, begin(parts.number, cursor), parts.number);
-    let dimensions = expect_word(list, number, parts.dimensions);
-    let letter = expect_word(list, dimensions, parts.letter);
-    let start = expect_word(list, letter, parts.start);
-    let length = expect_word(list, start, parts.length);
-    let parameters = expect_word(list, length, parts.parameters);
-    let place = expect_number(list, parameters, parts.place);
-    let used = expect_number(list, place, parts.used);
-    expect_end(list, used)
-}
-
-// 1 is yes and 0 is no.
-pub fn expect_yes(list: &[u8], cursor: Cursor, yes: bool) -> Trial {
-    let answered = expect_number(list, begin(0, cursor), yes as u64);
-    expect_end(list, answered)
+// The numbers of an answer.
+fn expect_numbers(list: &[u8], before: Trial, answered: &[u64]) -> Trial {
+    let mut trial = before;
+    let mut i = 0;
+    while i < answered.len() {
+        trial = expect(list, trial, DECIMAL, answered[i]);
+        i += 1;
+    }
+    expect_end(list, trial)
 }
 
 // A store as it was left, every word.
-pub fn expect_words(list: &[u8], answered: Trial, store: &[u32]) -> Trial {
-    let mut trial = answered;
+pub fn expect_words(list: &[u8], before: Trial, store: &[u32]) -> Trial {
+    let mut trial = before;
     let mut i = 0;
     while i < store.len() {
-        trial = expect_word(list, trial, store[i]);
+        trial = expect(list, trial, DECIMAL, wide_word(store[i]));
         i += 1;
     }
     expect_end(list, trial)
 }
 
 // An output as it was left, every byte.
-pub fn expect_bytes(list: &[u8], answered: Trial, out: &[u8]) -> Trial {
-    let mut trial = answered;
+pub fn expect_bytes(list: &[u8], before: Trial, out: &[u8]) -> Trial {
+    let mut trial = before;
     let mut i = 0;
     while i < out.len() {
-        trial = expect_byte(list, trial, out[i]);
+        trial = expect(list, trial, HEXADECIMAL, wide_byte(out[i]));
         i += 1;
     }
     expect_end(list, trial)
+}
+
+fn wide_word(word: u32) -> u64 {
+    word as u64
+}
+
+fn wide_byte(byte: u8) -> u64 {
+    byte as u64
+}
+
+pub fn expect_answer(list: &[u8], cursor: Cursor, answer: Answer) -> Trial {
+    let numbers = [
+        answer.number as u64,
+        answer.second as u64,
+        answer.place,
+        answer.first,
+        answer.next,
+    ];
+    expect_numbers(list, begin(answer.number, cursor), &numbers)
+}
+
+pub fn expect_parts(list: &[u8], cursor: Cursor, parts: Parts) -> Trial {
+    let numbers = [
+        parts.number as u64,
+        parts.dimensions as u64,
+        parts.letter as u64,
+        parts.start as u64,
+        parts.length as u64,
+        parts.parameters as u64,
+        parts.place,
+        parts.used,
+    ];
+    expect_numbers(list, begin(parts.number, cursor), &numbers)
+}
+
+// 1 is yes and 0 is no.
+pub fn expect_yes(list: &[u8], cursor: Cursor, yes: bool) -> Trial {
+    expect_numbers(list, begin(0, cursor), &[yes as u64])
 }
