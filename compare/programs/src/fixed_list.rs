@@ -1,13 +1,17 @@
-//! The lines of the fixed list that the crate replay runs. Every answer in them is the model's; crates/replay/src/list.rt
-//! and cases.rt say how a line is written.
+//! The lines of the fixed list that the crate replay runs. Every answer in them is the model's, and for the reading of a
+//! text it is seen to be the crate's as well; crates/replay/src/list.rt and cases.rt say how a line is written.
+use crate::crate_texts::{self, REFUSED};
 use crate::station::{Answer, Parts};
-use crate::{model, text_model as texts, Part};
+use crate::{model, text_model as texts, Part, PART};
 use std::collections::{BTreeMap, BTreeSet};
 
 /// What replay has room for: the bytes of a file and of an output, those of an input, the words of a store.
 const FILE_ROOM: usize = 131_072;
 const BYTES_ROOM: usize = 65_536;
 const WORDS_ROOM: usize = 16_384;
+
+/// The most bytes of a text of the crate's domain.
+const TEXT_LIMIT: usize = 65_535;
 
 /// So many equal numbers or more are written once, with how many times they come.
 const SHORTEST_RUN: usize = 4;
@@ -59,6 +63,13 @@ fn text(all: &[u8]) -> String {
         is_open = readable;
     }
     pieces.join(" ") + if is_open { "\"" } else { "" }
+}
+
+/// The crate reads valid UTF-8 alone, and its refusals have no number.
+fn assert_as_crate(text: &[u8], number: u32, theirs: impl Fn() -> u32) {
+    if text.len() <= TEXT_LIMIT && std::str::from_utf8(text).is_ok() {
+        assert_eq!(number > 0, theirs() == REFUSED, "the crate differs on {:?}", text.escape_ascii().to_string());
+    }
 }
 
 fn answer(of: &Answer) -> String {
@@ -122,32 +133,40 @@ impl List {
 
     pub fn class_name(&mut self, name: &[u8]) {
         let checked = texts::class_name(name);
+        assert_as_crate(name, checked.number, || crate_texts::class_name(name).number);
         self.case("class_name", &[text(name)], checked.number, &[answer(&checked)]);
     }
 
     /// A text read in each of the five forms without parameters.
     pub fn fields(&mut self, from: &[u8]) {
         assert!(from.len() <= BYTES_ROOM);
-        let forms: [(&str, fn(&[u8]) -> Parts); 5] = [
-            ("field_prefix", texts::field_prefix),
-            ("field_whole", texts::field_whole),
-            ("return_prefix", texts::return_prefix),
-            ("return_whole", texts::return_whole),
-            ("array", texts::array),
+        type Read = fn(&[u8]) -> Parts;
+        let forms: [(&str, Read, Read); 5] = [
+            ("field_prefix", texts::field_prefix, crate_texts::field_prefix),
+            ("field_whole", texts::field_whole, crate_texts::field_whole),
+            ("return_prefix", texts::return_prefix, crate_texts::return_prefix),
+            ("return_whole", texts::return_whole, crate_texts::return_whole),
+            ("array", texts::array, crate_texts::array),
         ];
-        for (entry, read) in forms {
+        for (entry, read, theirs) in forms {
             let found = read(from);
+            assert_as_crate(from, found.number, || theirs(from).number);
             self.case(entry, &[text(from)], found.number, &[parts(&found)]);
         }
     }
 
     /// A method descriptor in both forms, with a store.
     pub fn method(&mut self, from: &[u8], store: &[u32]) {
-        let forms: [(&str, fn(&[u8], &mut [u32]) -> Parts); 2] =
-            [("method_prefix", texts::method_prefix), ("method_whole", texts::method_whole)];
-        for (entry, read) in forms {
+        type Read = fn(&[u8], &mut [u32]) -> Parts;
+        let forms: [(&str, Read, Read); 2] = [
+            ("method_prefix", texts::method_prefix, crate_texts::method_prefix),
+            ("method_whole", texts::method_whole, crate_texts::method_whole),
+        ];
+        for (entry, read, theirs) in forms {
             let mut parameters = store.to_vec();
             let found = read(from, &mut parameters);
+            let mut room = vec![0; PART * from.len()];
+            assert_as_crate(from, read(from, &mut room).number, || theirs(from, &mut vec![0; PART * from.len()]).number);
             self.case(entry, &[text(from), words(store)], found.number, &[parts(&found), words(&parameters)]);
         }
     }
@@ -179,27 +198,31 @@ impl List {
         self.case("identifier", &given, written.number, &[answer(&written), text(&after)]);
     }
 
-    fn says(&mut self, entry: &str, given: &[String], yes: bool) {
-        self.case(entry, given, 0, &[(yes as u32).to_string()]);
+    fn says(&mut self, entry: &str, text: &[u8], flags: &[String], yes: bool, theirs: impl Fn() -> bool) {
+        assert_as_crate(text, !yes as u32, || if theirs() { 0 } else { REFUSED });
+        let given = [&[self::text(text)], flags].concat();
+        self.case(entry, &given, 0, &[(yes as u32).to_string()]);
+    }
+
+    fn check(&mut self, entry: &str, text: &[u8], ours: fn(&[u8]) -> bool, theirs: fn(&[u8]) -> bool) {
+        self.says(entry, text, &[], ours(text), || theirs(text));
     }
 
     pub fn name_checks(&mut self, name: &[u8]) {
-        let given = [text(name)];
-        self.says("is_binary_name", &given, texts::is_binary_name(name));
-        self.says("is_unqualified_name", &given, texts::is_unqualified_name(name));
-        self.says("is_module_name", &given, texts::is_module_name(name));
+        self.check("is_binary_name", name, texts::is_binary_name, crate_texts::is_binary_name);
+        self.check("is_unqualified_name", name, texts::is_unqualified_name, crate_texts::is_unqualified_name);
+        self.check("is_module_name", name, texts::is_module_name, crate_texts::is_module_name);
         for (init, clinit) in [(false, false), (true, false), (false, true), (true, true)] {
             let flags = format!("{} {}", init as u32, clinit as u32);
             let yes = texts::is_method_name(name, init, clinit);
-            self.says("is_method_name", &[text(name), flags], yes);
+            self.says("is_method_name", name, &[flags], yes, || crate_texts::is_method_name(name, init, clinit));
         }
     }
 
     pub fn descriptor_checks(&mut self, from: &[u8]) {
-        let given = [text(from)];
-        self.says("is_field_descriptor", &given, texts::is_field_descriptor(from));
-        self.says("is_array_descriptor", &given, texts::is_array_descriptor(from));
-        self.says("is_return_descriptor", &given, texts::is_return_descriptor(from));
-        self.says("is_method_descriptor", &given, texts::is_method_descriptor(from));
+        self.check("is_field_descriptor", from, texts::is_field_descriptor, crate_texts::is_field_descriptor);
+        self.check("is_array_descriptor", from, texts::is_array_descriptor, crate_texts::is_array_descriptor);
+        self.check("is_return_descriptor", from, texts::is_return_descriptor, crate_texts::is_return_descriptor);
+        self.check("is_method_descriptor", from, texts::is_method_descriptor, crate_texts::is_method_descriptor);
     }
 }

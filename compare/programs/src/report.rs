@@ -132,7 +132,7 @@ pub fn unhex(text: &str) -> Vec<u8> {
     text.split_whitespace().map(|b| u8::from_str_radix(b, 16).unwrap()).collect()
 }
 
-/// Drops pieces of a code, then single bytes, while it still differs.
+/// Drops pieces of a code or text, then single bytes, while it still differs.
 pub fn shrunk(code: &[u8], differs: impl Fn(&[u8]) -> bool) -> Vec<u8> {
     let mut small = code.to_vec();
     let mut piece = small.len();

@@ -53,8 +53,12 @@ impl<'a> Section<'a> {
         }
     }
 
-    pub fn run(&mut self, call: &Call, text: &[u8]) {
-        let (ours, other) = (OURS.outcome(call, text), self.reference.side.outcome(call, text));
+    fn both(&self, call: &Call, text: &[u8]) -> (Outcome, Outcome) {
+        (OURS.outcome(call, text), self.reference.side.outcome(call, text))
+    }
+
+    fn run(&mut self, call: &Call, text: &[u8]) {
+        let (ours, other) = self.both(call, text);
         self.totals.cases += 1;
         match (&ours, ours.number()) {
             (Outcome::Says(true), _) => self.yes += 1,
@@ -73,18 +77,16 @@ impl<'a> Section<'a> {
         }
     }
 
+    fn differs(&self, call: &Call, text: &[u8]) -> bool {
+        let (ours, other) = self.both(call, text);
+        !ours.agrees(&other) && (self.reference.known)(call, &ours, &other).is_none()
+    }
+
     fn report(&self, call: &Call, text: &[u8]) {
-        // The crate takes no other text.
+        // The crate's texts stay valid UTF-8.
         let is_utf8 = |text: &[u8]| std::str::from_utf8(text).is_ok();
-        let is_utf8_given = is_utf8(text);
-        let both = |text: &[u8]| (OURS.outcome(call, text), self.reference.side.outcome(call, text));
-        let small = shrunk(text, |text| {
-            is_utf8(text) == is_utf8_given && {
-                let (ours, other) = both(text);
-                !ours.agrees(&other) && (self.reference.known)(call, &ours, &other).is_none()
-            }
-        });
-        let (ours, other) = both(&small);
+        let small = shrunk(text, |fewer| is_utf8(fewer) == is_utf8(text) && self.differs(call, fewer));
+        let (ours, other) = self.both(call, &small);
         difference(&call.to_string(), &shown_text(&small), &shown_outcome(&ours), &shown_outcome(&other));
     }
 
@@ -121,7 +123,7 @@ impl<'a> Section<'a> {
         self.writing(text, printed_most(text, &part), |room| Call::Print(i, part, room));
     }
 
-    pub fn print_method(&mut self, text: &[u8], method: &Method) {
+    fn print_method(&mut self, text: &[u8], method: &Method) {
         let Method { records, count, returned } = method;
         let most = printed_most(text, records) + printed_most(text, returned);
         self.writing(text, most, |room| Call::PrintMethod(records.clone(), *count, *returned, room));

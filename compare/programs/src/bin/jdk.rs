@@ -133,7 +133,7 @@ fn main() {
     };
     let classes = classes::all(&folder);
     let left = classes.iter().filter(|class| class.pool().is_none()).count();
-    println!("{} classes, the methods of {left} left out, whose pool is over its limit", classes.len());
+    println!("{} classes; without the methods of {left}, whose pool is over its limit or unread", classes.len());
     let mut all = Totals::default();
     methods(&classes, &mut all);
     texts(&classes, &references::the_crate(), "against the crate", |text| std::str::from_utf8(text).is_ok(), &mut all);

@@ -1,5 +1,5 @@
 //! Our whole answers and whole stores against the model of document 01, at every small capacity of the stores.
-//! usage: against_model [SEED [COUNT]]
+//! usage: codes_against_model [SEED [COUNT]]
 use compare::codes::{build, damage, Shape, Tagged};
 use compare::report::{difference, number, shown_code, shrunk, words, Progress, Refusals, Totals};
 use compare::rng::Rng;
@@ -250,5 +250,5 @@ fn main() {
     every_code(&mut rng, &mut all);
     built_codes(seed, count, &mut all);
     lookups(seed, count, &mut all);
-    all.finish("against_model")
+    all.finish("codes_against_model")
 }

@@ -1,4 +1,4 @@
-//! Our decoding and lookup against the crate's. usage: against_crate [SEED [COUNT]], COUNT codes for each pool
+//! Our decoding and lookup against the crate's. usage: codes_against_crate [SEED [COUNT]], COUNT codes for each pool
 use cafebabe::bytecode::ByteCode;
 use cafebabe::visible::Pool;
 use compare::codes::{large, small, Tagged};
@@ -289,5 +289,5 @@ fn main() {
         built_codes(pool, seed, count / 200, true, &mut all);
     }
     println!("known difference: tableswitch from -2147483648 to 2147483647, here refusal 10: {} times", all.known);
-    all.finish("against_crate")
+    all.finish("codes_against_crate")
 }
