@@ -166,7 +166,9 @@ impl List {
             let mut parameters = store.to_vec();
             let found = read(from, &mut parameters);
             let mut room = vec![0; PART * from.len()];
-            assert_as_crate(from, read(from, &mut room).number, || theirs(from, &mut vec![0; PART * from.len()]).number);
+            assert_as_crate(from, read(from, &mut room).number, || {
+                theirs(from, &mut vec![0; PART * from.len()]).number
+            });
             self.case(entry, &[text(from), words(store)], found.number, &[parts(&found), words(&parameters)]);
         }
     }
