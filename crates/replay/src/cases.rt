@@ -378,7 +378,7 @@ fn after_name(list: &[u8], line: usize) -> Cursor {
     start(at)
 }
 
-// A name that begins as its group's does and is none of it is run as the group's last, and so is seen to differ.
+// The case of a line. A name that is none of those above is taken for the last of its group.
 pub fn run(list: &[u8], line: usize) -> Trial {
     let from = after_name(list, line);
     if is_named(list, line, b"decode ") {

@@ -1,5 +1,6 @@
-// Runs the fixed list of cases in data/ through the library's functions, and says which answer is not the listed one. The
-// list comes from a plain model of document 01 (compare/run replay-list) and not from the library.
+// Runs the fixed list of cases in data/ through the library's functions, and says which answers are not the listed ones.
+// Those come from document 01 itself (settled) and from a plain model of it (compare/run replay-list), never from the
+// library.
 mod cases;
 mod expect;
 mod list;
@@ -37,7 +38,7 @@ fn one_more(count: u64) -> u64 {
     if count < u64::MAX { count + 1 } else { count }
 }
 
-fn count_refusal(refusals: &mut [u64; 36], number: u32) {
+fn count_refusal(refusals: &mut [u64; NUMBERS], number: u32) {
     let at = number as usize;
     if at < NUMBERS {
         refusals[at] = one_more(refusals[at]);
@@ -61,7 +62,7 @@ fn next_line(list: &[u8], line: usize) -> usize
 }
 
 // Whether the answer agrees to the end of the line.
-fn is_good(list: &[u8], trial: Trial) -> bool {
+fn agrees(list: &[u8], trial: Trial) -> bool {
     let verdict = trial.verdict;
     let Verdict::Agrees = verdict else {
         return false;
@@ -100,7 +101,7 @@ fn run_line(
     list: &[u8],
     line: usize,
     before: Totals,
-    refusals: &mut [u64; 36],
+    refusals: &mut [u64; NUMBERS],
 ) -> Totals {
     if byte_at(list, line) == b'#' {
         return before;
@@ -108,7 +109,7 @@ fn run_line(
     let trial = cases::run(list, line);
     count_refusal(refusals, trial.refusal);
     let cases = one_more(before.cases);
-    if is_good(list, trial) {
+    if agrees(list, trial) {
         return Totals {
             cases,
             differing: before.differing,
@@ -121,7 +122,7 @@ fn run_line(
     }
 }
 
-fn run_lines(name: &[u8], list: &[u8], before: Totals, refusals: &mut [u64; 36]) -> Totals {
+fn run_lines(name: &[u8], list: &[u8], before: Totals, refusals: &mut [u64; NUMBERS]) -> Totals {
     let mut totals = before;
     let mut number = 1;
     let mut line = 0;
@@ -134,7 +135,7 @@ fn run_lines(name: &[u8], list: &[u8], before: Totals, refusals: &mut [u64; 36])
 }
 
 // A file that cannot be read has no cases, and the counts then tell.
-fn run_file(name: &[u8], before: Totals, refusals: &mut [u64; 36]) -> Totals {
+fn run_file(name: &[u8], before: Totals, refusals: &mut [u64; NUMBERS]) -> Totals {
     let mut room = room();
     let file = os::open_read(name);
     let length = io::read_full(file, &mut room);
@@ -147,7 +148,7 @@ fn run_file(name: &[u8], before: Totals, refusals: &mut [u64; 36]) -> Totals {
     after
 }
 
-fn print_refusals(refusals: &[u64; 36]) {
+fn print_refusals(refusals: &[u64; NUMBERS]) {
     print(b"refusals:");
     let mut number = 1;
     while number < NUMBERS {
@@ -167,8 +168,8 @@ fn print_refusal(number: u64, count: u64) {
     }
 }
 
-// The files of the list.
-fn run_nth(file: usize, before: Totals, refusals: &mut [u64; 36]) -> Totals {
+// The files of the list: the settled examples, codes, lookups, texts.
+fn run_nth(file: usize, before: Totals, refusals: &mut [u64; NUMBERS]) -> Totals {
     match file {
         0 => run_file(b"settled", before, refusals),
         1 => run_file(b"bytes", before, refusals),
@@ -185,7 +186,7 @@ fn run_nth(file: usize, before: Totals, refusals: &mut [u64; 36]) -> Totals {
     }
 }
 
-fn run_all(refusals: &mut [u64; 36]) -> Totals {
+fn run_all(refusals: &mut [u64; NUMBERS]) -> Totals {
     let mut totals = Totals {
         cases: 0,
         differing: 0,
@@ -199,7 +200,7 @@ fn run_all(refusals: &mut [u64; 36]) -> Totals {
 }
 
 fn main() {
-    let mut refusals = [0u64; 36];
+    let mut refusals = [0u64; NUMBERS];
     let totals = run_all(&mut refusals);
     print_refusals(&refusals);
     print_number(totals.cases);
