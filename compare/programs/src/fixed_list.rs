@@ -13,6 +13,9 @@ const WORDS_ROOM: usize = 16_384;
 /// The most bytes of a text of the crate's domain.
 const TEXT_LIMIT: usize = 65_535;
 
+/// Replay takes a decimal number from here on for the largest.
+const TOO_LARGE: u64 = 10 << 60;
+
 /// So many equal numbers or more are written once, with how many times they come.
 const SHORTEST_RUN: usize = 4;
 
@@ -31,6 +34,11 @@ fn numbers<T: Copy + PartialEq>(all: &[T], shown: impl Fn(T) -> String) -> Strin
         length => vec![format!("{}*{length}", shown(run[0]))],
     });
     runs.collect::<Vec<_>>().join(" ")
+}
+
+fn number(one: u64) -> String {
+    assert!(one < TOO_LARGE || one == u64::MAX);
+    one.to_string()
 }
 
 fn words(all: &[u32]) -> String {
@@ -65,11 +73,25 @@ fn text(all: &[u8]) -> String {
     pieces.join(" ") + if is_open { "\"" } else { "" }
 }
 
+/// A refusal's number or 0, and the whole answer.
+type Outcome = (u32, String);
+
 /// The crate reads valid UTF-8 alone, and its refusals have no number.
-fn assert_as_crate(text: &[u8], number: u32, theirs: impl Fn() -> u32) {
-    if text.len() <= TEXT_LIMIT && std::str::from_utf8(text).is_ok() {
-        assert_eq!(number > 0, theirs() == REFUSED, "the crate differs on {:?}", text.escape_ascii().to_string());
+fn assert_as_crate(text: &[u8], ours: Outcome, theirs: impl Fn() -> Outcome) {
+    if text.len() > TEXT_LIMIT || std::str::from_utf8(text).is_err() {
+        return;
     }
+    let theirs = theirs();
+    let agrees = if theirs.0 == REFUSED { ours.0 > 0 } else { ours == theirs };
+    assert!(agrees, "the crate differs on {}: {theirs:?}, not {ours:?}", text.escape_ascii());
+}
+
+fn answered(by: Answer) -> Outcome {
+    (by.number, answer(&by))
+}
+
+fn parsed(by: Parts, parameters: &[u32]) -> Outcome {
+    (by.number, format!("{} {}", parts(&by), words(parameters)))
 }
 
 fn answer(of: &Answer) -> String {
@@ -128,12 +150,17 @@ impl List {
 
     pub fn lookup(&mut self, records: &[u32], count: u64, offset: u64) {
         let found = model::lookup(records, count, offset);
-        self.case("lookup", &[words(records), format!("{count} {offset}")], found.number, &[answer(&found)]);
+        self.case(
+            "lookup",
+            &[words(records), format!("{} {}", number(count), number(offset))],
+            found.number,
+            &[answer(&found)],
+        );
     }
 
     pub fn class_name(&mut self, name: &[u8]) {
         let checked = texts::class_name(name);
-        assert_as_crate(name, checked.number, || crate_texts::class_name(name).number);
+        assert_as_crate(name, answered(checked), || answered(crate_texts::class_name(name)));
         self.case("class_name", &[text(name)], checked.number, &[answer(&checked)]);
     }
 
@@ -150,7 +177,7 @@ impl List {
         ];
         for (entry, read, theirs) in forms {
             let found = read(from);
-            assert_as_crate(from, found.number, || theirs(from).number);
+            assert_as_crate(from, parsed(found, &[]), || parsed(theirs(from), &[]));
             self.case(entry, &[text(from)], found.number, &[parts(&found)]);
         }
     }
@@ -165,10 +192,11 @@ impl List {
         for (entry, read, theirs) in forms {
             let mut parameters = store.to_vec();
             let found = read(from, &mut parameters);
-            let mut room = vec![0; PART * from.len()];
-            assert_as_crate(from, read(from, &mut room).number, || {
-                theirs(from, &mut vec![0; PART * from.len()]).number
-            });
+            let with_room = |read: Read| {
+                let mut room = vec![0; PART * texts::parameters_read(from)];
+                parsed(read(from, &mut room), &room)
+            };
+            assert_as_crate(from, with_room(read), || with_room(theirs));
             self.case(entry, &[text(from), words(store)], found.number, &[parts(&found), words(&parameters)]);
         }
     }
@@ -188,7 +216,7 @@ impl List {
     pub fn print_method(&mut self, from: &[u8], parameters: &[u32], count: u64, returned: Part, out: &[u8]) {
         let mut after = out.to_vec();
         let written = texts::print_method(from, parameters, count, returned, &mut after);
-        let given = [text(from), words(parameters), count.to_string(), part(&returned), text(out)];
+        let given = [text(from), words(parameters), number(count), part(&returned), text(out)];
         self.case("print_method", &given, written.number, &[answer(&written), text(&after)]);
     }
 
@@ -201,7 +229,8 @@ impl List {
     }
 
     fn says(&mut self, entry: &str, text: &[u8], flags: &[String], yes: bool, theirs: impl Fn() -> bool) {
-        assert_as_crate(text, !yes as u32, || if theirs() { 0 } else { REFUSED });
+        let said = |yes: bool| (if yes { 0 } else { REFUSED }, String::new());
+        assert_as_crate(text, said(yes), || said(theirs()));
         let given = [&[self::text(text)], flags].concat();
         self.case(entry, &given, 0, &[(yes as u32).to_string()]);
     }
