@@ -11,7 +11,6 @@ use libc::STDOUT_FILENO;
 use list::byte_at;
 use list::room;
 ghost use Prim.Native.Nat.{_≤_, _<_};
-ghost use mathlib.Core.Path.{_≡_};
 ghost use lib.ListN.{length};
 
 // How many numbers an answer may have: 0, and the refusals up to 35.
