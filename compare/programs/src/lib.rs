@@ -6,6 +6,7 @@ pub mod codes;
 pub mod crate_side;
 pub mod crate_texts;
 pub mod edges;
+pub mod fixed_list;
 pub mod model;
 pub mod parts;
 pub mod pools;
