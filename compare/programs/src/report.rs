@@ -37,10 +37,10 @@ impl Totals {
     }
 }
 
-/// A difference, with both answers.
-pub fn difference(what: &str, code: &[u8], ours: &str, other: &str) {
+/// A difference, with the code or text and both answers.
+pub fn difference(what: &str, input: &str, ours: &str, other: &str) {
     println!("DIFFERENCE, {what}");
-    println!("  code of {} bytes: {}", code.len(), hex(code));
+    println!("  of {input}");
     println!("  ours:  {ours}");
     println!("  other: {other}");
 }
@@ -111,16 +111,28 @@ impl Drop for Progress {
     }
 }
 
-pub fn hex(bytes: &[u8]) -> String {
-    let shown: Vec<String> = bytes.iter().take(64).map(|b| format!("{b:02x}")).collect();
-    shown.join(" ") + if bytes.len() > 64 { " .." } else { "" }
+/// At most so many bytes of a code or text are shown.
+const SHOWN_BYTES: usize = 64;
+
+fn shown(sort: &str, bytes: &[u8], first: String) -> String {
+    let more = if bytes.len() > SHOWN_BYTES { " .." } else { "" };
+    format!("{sort} of {} bytes: {first}{more}", bytes.len())
+}
+
+pub fn shown_code(code: &[u8]) -> String {
+    let first: Vec<String> = code.iter().take(SHOWN_BYTES).map(|b| format!("{b:02x}")).collect();
+    shown("code", code, first.join(" "))
+}
+
+pub fn shown_text(text: &[u8]) -> String {
+    shown("text", text, format!("\"{}\"", text[..text.len().min(SHOWN_BYTES)].escape_ascii()))
 }
 
 pub fn unhex(text: &str) -> Vec<u8> {
     text.split_whitespace().map(|b| u8::from_str_radix(b, 16).unwrap()).collect()
 }
 
-/// Drops pieces of a code, then single bytes, while it still differs.
+/// Drops pieces of a code or text, then single bytes, while it still differs.
 pub fn shrunk(code: &[u8], differs: impl Fn(&[u8]) -> bool) -> Vec<u8> {
     let mut small = code.to_vec();
     let mut piece = small.len();

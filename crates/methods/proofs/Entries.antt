@@ -15,12 +15,12 @@ use Rattle.store.proofs.Records.{then-record}
 use Rattle.descriptors.specs.declared.FieldDescriptor.{FieldDescriptor}
 use Rattle.descriptors.specs.Texts.{void}
 use Rattle.descriptors.specs.Grammar.{ReturnDescriptor, partsAt}
-use Rattle.descriptors.proofs.Grammar.{begins-within, begins-all}
+use Rattle.descriptors.proofs.Grammar.{begins-within, begins-all, some-text}
 use Rattle.methods.specs.declared.Method.{Method}
 use Rattle.methods.specs.declared.Method.the-variants as method
 use Rattle.methods.specs.Texts.{Reading, methodReading, partWords, words, roomOf, within, answerFrom, storeFrom, whole, methodPrefix, methodText, methodCheck, filled, storeAfter, isAccepted}
 use Rattle.methods.specs.Grammar.{Parameters, MethodDescriptor, FewInReturn, FewInMethod, number, readingAt, listAt, returnAt, parameterCount, parameterParts, returnParts}
-use Rattle.methods.specs.Theorems.{accepted, BeginsReturn, BeginsRest, BeginsMethod, DerivedMethod, MethodTextExactly, allWords, AcceptedStore, RefusedStore, WholeIsPrefix, CheckAgrees, DerivedBeginning, PrefixDerived, AcceptedPrefixStore, RefusedPrefixStore}
+use Rattle.methods.specs.Theorems.{accepted, BeginsReturn, BeginsRest, BeginsMethod, DerivedMethod, MethodTextExactly, allWords, AcceptedStore, RefusedStore, WholeIsPrefix, CheckAgrees, DerivedBeginning, PrefixDerived, FewParameters, AcceptedPrefixStore, RefusedPrefixStore}
 use Rattle.methods.proofs.Laws.{some-left, none-left}
 use Rattle.methods.proofs.Grammar.{method-exactly, one-derivation}
 
@@ -178,6 +178,17 @@ text-length b =
     let m = b .begins in
     let rest : length (b .rest) ≡ length (m .parameters) + suc (length (m .follows)) = ap length (m .split) ∙ length-append (m .parameters) (byte ")" ∷ m .follows) in
     ap length (b .opens) ∙ omega arith
+
+-- Each parameter has a byte at least.
+number-within : {p : List ℕ} (trees : Parameters p) → number trees ≤ length p
+unfolding number
+number-within Parameters.none = omega arith
+number-within (Parameters.more p rest t ts e) = omega (arith, some-text t, number-within ts, ap length e ∙ length-append p rest)
+
+pub few-parameters : FewParameters
+few-parameters room s count f used h =
+    let p = prefix-read room s count f used h in
+    omega (arith, p .counted, number-within (p .begins .begins .trees), text-length (p .begins), p .begins .short)
 
 module _ (room : ℕ) (s : List ℕ) (count : ℕ) (f : FieldDescriptor) (used : ℕ) where
   used-within : methodPrefix room s ≡ method.Parsed count f used → used ≤ length s

@@ -1,5 +1,5 @@
 -- The readings of method descriptors and the grammar agree. The proofs are in proofs/Grammar.antt and proofs/Entries.antt.
-use Prim.Native.Nat.{ℕ, _+_, _*_, _≤_}
+use Prim.Native.Nat.{ℕ, _+_, _*_, _≤_, _<_}
 use mathlib.Core.Bool.{Bool, true, false, So}
 use mathlib.Core.List.{List, [], _∷_, _++_}
 use mathlib.Core.Logic.{_↔_, _⊎_}
@@ -70,6 +70,12 @@ abbrev pub PrefixDerived : Type 0
 PrefixDerived =
     (room : ℕ) (s : List ℕ) (count : ℕ) (f : FieldDescriptor) (used : ℕ)
     → methodPrefix room s ≡ method.Parsed count f used → DerivedBeginning s count f used
+
+-- Each parameter has a byte, so there are fewer than the limit's bytes: proved as `few-parameters`
+abbrev pub FewParameters : Type 0
+FewParameters =
+    (room : ℕ) (s : List ℕ) (count : ℕ) (f : FieldDescriptor) (used : ℕ)
+    → methodPrefix room s ≡ method.Parsed count f used → count < textLimit
 
 -- the whole text, within the limits and the store's room, is derived
 pub record DerivedMethod (room : ℕ) (s : List ℕ) (count : ℕ) (f : FieldDescriptor) (used : ℕ) : Type 0 where

@@ -36,7 +36,7 @@ use Rattle.instruction.specs.Theorems.{entriesOf}
 use Rattle.lookup.specs.Lookup.{lookupOf}
 use Rattle.filling.specs.Filling.{recordOf}
 use Rattle.bytecode.specs.Decoding.{decoding, recordsAfter, entriesAfter}
-use Rattle.station.specs.Station.{decodeAnswer, lookupAnswer}
+use Rattle.station.specs.Station.{decodeAnswer, lookupAnswer, nameAnswer, outputAnswer, partOf, fieldParts, arrayParts, methodParts}
 
 -- an answer alone, with the contents of one lent slice afterwards, and with those of two
 abbrev pub Answer : {A : Type 0} → A → Type 0
@@ -61,6 +61,26 @@ pub record EntriesPinned : Type 0 where
   -- the library for C
   pub nk-decode : (code pool records entries : List ℕ) → AnswerWithTwo (decodeAnswer (decoding code pool records entries)) (recordsAfter code pool records entries) (entriesAfter code pool records entries)
   pub nk-lookup : (records : List ℕ) (count : ℕ) (offset : CodeOffset) → Answer (lookupAnswer (lookupOf records count offset))
+  pub nk-class-name : (text : List ℕ) → Answer (nameAnswer (className text))
+  pub nk-print-field : (text : List ℕ) (dimensions letter start size : ℕ) (out : List ℕ) → AnswerWith (outputAnswer (printField text (partOf dimensions letter start size) (length out))) (fieldOutput text (partOf dimensions letter start size) out)
+  pub nk-print-return : (text : List ℕ) (dimensions letter start size : ℕ) (out : List ℕ) → AnswerWith (outputAnswer (printReturn text (partOf dimensions letter start size) (length out))) (returnOutput text (partOf dimensions letter start size) out)
+  pub nk-print-method : (text parameters : List ℕ) (count dimensions letter start size : ℕ) (out : List ℕ) → AnswerWith (outputAnswer (printMethod text parameters count (partOf dimensions letter start size) (length out))) (methodOutput text parameters count (partOf dimensions letter start size) out)
+  pub nk-identifier : (name descriptor out : List ℕ) → AnswerWith (outputAnswer (identifying name descriptor (length out))) (identifierOutput name descriptor out)
+  pub nk-field-prefix : (text : List ℕ) → Answer (fieldParts (fieldPrefix text))
+  pub nk-field-whole : (text : List ℕ) → Answer (fieldParts (fieldText text))
+  pub nk-return-prefix : (text : List ℕ) → Answer (fieldParts (returnPrefix text))
+  pub nk-return-whole : (text : List ℕ) → Answer (fieldParts (returnText text))
+  pub nk-array : (text : List ℕ) → Answer (arrayParts (length text) (arrayText text))
+  pub nk-method-prefix : (text parameters : List ℕ) → AnswerWith (methodParts (methodPrefix (roomOf parameters) text)) (prefixStore parameters text)
+  pub nk-method-whole : (text parameters : List ℕ) → AnswerWith (methodParts (methodText (roomOf parameters) text)) (textStore parameters text)
+  pub nk-is-binary-name : (text : List ℕ) → Answer (isBinaryName text)
+  pub nk-is-unqualified-name : (text : List ℕ) → Answer (isUnqualifiedName text)
+  pub nk-is-method-name : (init clinit : Bool) (text : List ℕ) → Answer (isMethodName init clinit text)
+  pub nk-is-module-name : (text : List ℕ) → Answer (isModuleName text)
+  pub nk-is-field-descriptor : (text : List ℕ) → Answer (isFieldText text)
+  pub nk-is-array-descriptor : (text : List ℕ) → Answer (isArrayText text)
+  pub nk-is-return-descriptor : (text : List ℕ) → Answer (isReturnText text)
+  pub nk-is-method-descriptor : (text : List ℕ) → Answer (isMethodText text)
   -- names
   pub is-unqualified-name : (name : List ℕ) → Answer (isUnqualifiedName name)
   pub is-unqualified-method-name : (init clinit : Bool) (name : List ℕ) → Answer (isMethodName init clinit name)

@@ -1,9 +1,12 @@
-//! Times of our decoding and of the crate's, both with the check of the jumps, in one process on the same codes.
-//! usage: bench [ROUNDS]
+//! Times of our decoding and of the crate's, both with the check of the jumps, in one process on the same codes. Our stores
+//! are lent as they are, not cleared between the codes. usage: bench [ROUNDS [FOLDER]], a folder with the classes of a JDK
+use cafebabe::visible::Pool;
+use compare::classes::{self, Class};
 use compare::pools::{self, MadePool};
 use compare::report::{number, unhex};
 use compare::rng::Rng;
-use compare::{station, ENTRY, RECORD};
+use compare::station::{self, Answer};
+use compare::{ENTRY, RECORD};
 use std::hint::black_box;
 use std::time::Instant;
 
@@ -42,15 +45,29 @@ fn long_code(rng: &mut Rng, bytes: usize, jumps: bool) -> Vec<u8> {
     code
 }
 
-/// A tableswitch of so many entries that lead to itself and to the return after it.
-fn table(entries: usize) -> Vec<u8> {
-    let end = (16 + 4 * entries) as i32;
-    let targets = (0..entries).map(|i| if i % 3 == 0 { 0 } else { end });
-    let words = [end, 0, entries as i32 - 1].into_iter().chain(targets);
+/// A tableswitch with these jumps, its default the first byte after it, which is a return, and so many nops.
+fn table(targets: Vec<i32>, nops: usize) -> Vec<u8> {
+    let words = [table_end(targets.len()), 0, targets.len() as i32 - 1].into_iter().chain(targets);
     let mut code = vec![0xaa, 0, 0, 0];
     code.extend(words.flat_map(|w| w.to_be_bytes()));
     code.push(0xb1);
+    code.resize(code.len() + nops, 0x00);
     code
+}
+
+/// Where a tableswitch of so many entries ends that is the first instruction.
+fn table_end(entries: usize) -> i32 {
+    (16 + 4 * entries) as i32
+}
+
+/// So many entries that lead to the switch itself and to the return after it.
+fn near_table(entries: usize) -> Vec<u8> {
+    table((0..entries).map(|i| if i % 3 == 0 { 0 } else { table_end(entries) }).collect(), 0)
+}
+
+/// So many entries that each lead to any of so many nops: the dearest check of jumps that was found.
+fn far_table(rng: &mut Rng, entries: usize, nops: usize) -> Vec<u8> {
+    table((0..entries).map(|_| table_end(entries) + 1 + rng.below(nops) as i32).collect(), nops)
 }
 
 fn cases(pool: &MadePool) -> Vec<(&'static str, Vec<u8>)> {
@@ -65,7 +82,8 @@ fn cases(pool: &MadePool) -> Vec<(&'static str, Vec<u8>)> {
         ("600 bytes, one jump in seven", long_code(rng, 600, true)),
         ("60,000 plain bytes", long_code(rng, 60_000, false)),
         ("60,000 bytes, one jump in seven", long_code(rng, 60_000, true)),
-        ("tableswitch of 10,000", table(10_000)),
+        ("tableswitch of 10,000", near_table(10_000)),
+        ("the same, to any of 20,000 nops", far_table(rng, 10_000, 20_000)),
     ]
 }
 
@@ -76,43 +94,103 @@ fn time(batch: usize, mut run: impl FnMut()) -> f64 {
     start.elapsed().as_nanos() as f64 / batch as f64
 }
 
-/// Best, median, and what nine in ten stay below.
-fn spread(mut times: Vec<f64>) -> (f64, f64, f64) {
-    times.sort_by(f64::total_cmp);
-    (times[0], times[times.len() / 2], times[times.len() * 9 / 10])
+/// The least of these times, the middle one, and what nine in ten stay below.
+struct Spread {
+    best: f64,
+    median: f64,
+    high: f64,
+}
+
+impl Spread {
+    fn of(mut times: Vec<f64>) -> Spread {
+        times.sort_by(f64::total_cmp);
+        Spread { best: times[0], median: times[times.len() / 2], high: times[times.len() * 9 / 10] }
+    }
+
+    fn shown(&self) -> String {
+        format!("{} ({}, {})", shown(self.best), shown(self.median), shown(self.high))
+    }
 }
 
 fn shown(ns: f64) -> String {
     match ns {
         _ if ns < 1e4 => format!("{ns:.1} ns"),
-        _ => format!("{:.1} us", ns / 1e3),
+        _ if ns < 1e7 => format!("{:.1} us", ns / 1e3),
+        _ => format!("{:.1} ms", ns / 1e6),
     }
+}
+
+/// Our rounds and the crate's, one of each in turn, and a row of the table.
+fn row(name: &str, rounds: u64, batch: usize, mut ours: impl FnMut(), mut theirs: impl FnMut()) {
+    let (our_times, their_times): (Vec<f64>, Vec<f64>) =
+        (0..rounds).map(|_| (time(batch, &mut ours), time(batch, &mut theirs))).unzip();
+    let mut ratios: Vec<f64> = our_times.iter().zip(&their_times).map(|(ours, theirs)| ours / theirs).collect();
+    ratios.sort_by(f64::total_cmp);
+    let (low, high) = (ratios[ratios.len() / 10], ratios[ratios.len() * 9 / 10]);
+    let (o, t) = (Spread::of(our_times), Spread::of(their_times));
+    let ratio = format!("{:.2} ({:.2}, {low:.2} to {high:.2})", o.best / t.best, o.median / t.median);
+    println!("{name:<32} {:<34} {:<34} {ratio}", o.shown(), t.shown());
+}
+
+struct Stores {
+    records: Vec<u32>,
+    entries: Vec<u32>,
+}
+
+impl Stores {
+    fn decode(&mut self, code: &[u8], tags: &[u8]) -> Answer {
+        black_box(station::decode(black_box(code), black_box(tags), &mut self.records, &mut self.entries))
+    }
+}
+
+fn made_codes(rounds: u64, stores: &mut Stores) {
+    let made = pools::each();
+    let cases = cases(&made);
+    let pool = made.read();
+    for (name, code) in &cases {
+        let answer = stores.decode(code, &made.tags);
+        let count = pool.decode(code).map(|decoded| decoded.opcodes.len() as u64).ok();
+        assert_eq!((answer.number, Some(answer.first)), (0, count), "{name}");
+        let theirs = || drop(black_box(black_box(&pool).decode(black_box(code))));
+        // About a third of a millisecond.
+        let batch = ((300_000.0 / time(10, theirs)) as usize).clamp(1, 20_000);
+        let ours = || {
+            stores.decode(code, &made.tags);
+        };
+        row(name, rounds, batch, ours, theirs);
+    }
+}
+
+/// A pass over all methods of the classes.
+fn real_methods(rounds: u64, classes: &[Class], stores: &mut Stores) {
+    let pools: Vec<(&Class, Pool)> = classes.iter().filter_map(|class| Some((class, class.pool()?))).collect();
+    let methods: usize = pools.iter().map(|(class, _)| class.codes().count()).sum();
+    let ours = || {
+        for (class, _) in &pools {
+            for code in class.codes() {
+                stores.decode(code, &class.tags);
+            }
+        }
+    };
+    let theirs = || {
+        for (class, pool) in &pools {
+            for code in class.codes() {
+                drop(black_box(pool.decode(black_box(code))));
+            }
+        }
+    };
+    row(&format!("{methods} methods of a JDK"), rounds, 1, ours, theirs);
 }
 
 fn main() {
     let rounds = number(1, 60).max(1);
-    let made = pools::each();
-    let cases = cases(&made);
-    let pool = made.read();
-    let (mut records, mut entries) = (vec![0; RECORD * 65_536], vec![0; ENTRY * 16_384]);
-    println!("{rounds} rounds, the two in turn; best (median, nine in ten below)");
-    println!("{:<32} {:<34} {:<34} ours/crate, best (median)", "code", "ours", "crate");
-    for (name, code) in &cases {
-        let answer = station::decode(code, &made.tags, &mut records, &mut entries);
-        let count = pool.decode(code).map(|decoded| decoded.opcodes.len() as u64).ok();
-        assert_eq!((answer.number, Some(answer.first)), (0, count), "{name}");
-        let once = time(10, || drop(black_box(pool.decode(black_box(code)))));
-        // About a third of a millisecond.
-        let batch = ((300_000.0 / once) as usize).clamp(1, 20_000);
-        let (mut ours, mut theirs) = (vec![], vec![]);
-        for _ in 0..rounds {
-            ours.push(time(batch, || {
-                black_box(station::decode(black_box(code), black_box(&made.tags), &mut records, &mut entries));
-            }));
-            theirs.push(time(batch, || drop(black_box(black_box(&pool).decode(black_box(code))))));
-        }
-        let (o, t) = (spread(ours), spread(theirs));
-        let side = |s: (f64, f64, f64)| format!("{} ({}, {})", shown(s.0), shown(s.1), shown(s.2));
-        println!("{name:<32} {:<34} {:<34} {:.2} ({:.2})", side(o), side(t), o.0 / t.0, o.1 / t.1);
+    let mut stores = Stores { records: vec![0; RECORD * 65_536], entries: vec![0; ENTRY * 16_384] };
+    println!("{rounds} rounds, the two in turn; times: best (median, nine in ten below)");
+    println!("ratio: of the bests (of the medians, eight in ten rounds' own)");
+    println!("{:<32} {:<34} {:<34} ours/crate", "code", "ours", "crate");
+    made_codes(rounds, &mut stores);
+    if let Some(folder) = std::env::args().nth(2) {
+        // A pass takes about a second.
+        real_methods(rounds.div_ceil(5), &classes::all(&folder), &mut stores);
     }
 }

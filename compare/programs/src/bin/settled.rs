@@ -1,7 +1,8 @@
-//! The settled examples of document 01 for code, with whole stores.
-use compare::report::{difference, unhex, words, Totals};
-use compare::station::{decode, lookup, Answer};
-use compare::{ENTRY, RECORD};
+//! The settled examples of document 01, with whole stores.
+use compare::report::{difference, shown_code, shown_text, unhex, words, Totals};
+use compare::sides::{Call, Outcome, OURS, READS, READS_METHOD};
+use compare::station::{decode, lookup, Answer, Parts};
+use compare::{ENTRY, PART, RECORD};
 
 /// What the stores hold before.
 const OLD: u32 = 0xdead_beef;
@@ -93,22 +94,92 @@ fn lookups(records: &[u32], count: u64, totals: &mut Totals) -> bool {
     (from..count).all(|i| lookup(records, count, records[i as usize * RECORD] as u64) == Answer::accepted(i, 1))
 }
 
-fn main() {
-    let mut totals = Totals::default();
+/// An example for texts.
+struct TextExample {
+    call: Call,
+    text: Vec<u8>,
+    want: Outcome,
+}
+
+const NO_PARTS: Parts =
+    Parts { number: 0, dimensions: 0, letter: 0, start: 0, length: 0, parameters: 0, place: 0, used: 0 };
+
+/// A descriptor of a field, a return or an array in each form, with number and place.
+fn refused_type(text: &[u8], number: u32, place: u64) -> impl Iterator<Item = TextExample> {
+    let (text, answer) = (text.to_vec(), Parts { number, place, ..NO_PARTS });
+    // What does not start with `[` is not an array.
+    let forms = if text[0] == b'[' { READS.len() } else { READS.len() - 1 };
+    let want = move || Outcome::Parts(answer, vec![]);
+    (0..forms).map(move |i| TextExample { call: Call::Read(i), text: text.clone(), want: want() })
+}
+
+fn refused_method(text: &[u8], number: u32, place: u64) -> impl Iterator<Item = TextExample> {
+    let (text, answer) = (text.to_vec(), Parts { number, place, ..NO_PARTS });
+    let store = 2 * PART + 1;
+    let want = move || Outcome::Parts(answer, vec![0; store]);
+    (0..READS_METHOD.len()).map(move |i| TextExample {
+        call: Call::ReadMethod(i, store),
+        text: text.clone(),
+        want: want(),
+    })
+}
+
+fn class_name(text: &[u8], answer: Answer) -> TextExample {
+    TextExample { call: Call::ClassName, text: text.to_vec(), want: Outcome::Answer(answer, vec![]) }
+}
+
+fn text_examples() -> Vec<TextExample> {
+    let arrays = |dimensions: usize| [&vec![b'['; dimensions][..], b"I"].concat();
+    let most = Parts { dimensions: 255, letter: b'I' as u32, used: 256, ..NO_PARTS };
+    let accepted = |i| TextExample { call: Call::Read(i), text: arrays(255), want: Outcome::Parts(most, vec![]) };
+    let names = [
+        class_name(b"", Answer::accepted(0, 0)),
+        class_name(b"a/", Answer::accepted(0, 0)),
+        class_name(b";", Answer::refused(25, 0, 0)),
+        class_name(b"a;", Answer::refused(28, 1, 0)),
+    ];
+    refused_method(b"()VV", 23, 2)
+        .chain(refused_type(b"La/;", 25, 3))
+        .chain(refused_type(b"L;", 25, 1))
+        .chain(names)
+        .chain((0..READS.len()).map(accepted))
+        .chain(refused_type(&arrays(256), 24, 255))
+        .collect()
+}
+
+fn settled_texts(totals: &mut Totals) {
+    for example in text_examples() {
+        let got = OURS.outcome(&example.call, &example.text);
+        totals.cases += 1;
+        if got != example.want && totals.unknown() {
+            let (got, want) = (format!("{got:?}"), format!("{:?}", example.want));
+            difference(&example.call.to_string(), &shown_text(&example.text), &got, &want);
+        }
+        println!("{}: {}", example.call, shown_text(&example.text));
+    }
+}
+
+fn settled_codes(totals: &mut Totals) {
     for example in examples() {
         for more in [(0, 0), (1, 1), (6, 2), (23, 9)] {
             let want = wanted(&example.want, more);
             let (mut records, mut entries) = (vec![OLD; want.1.len()], vec![OLD; want.2.len()]);
             let answer = decode(&example.code, &example.pool, &mut records, &mut entries);
             totals.cases += 1;
-            let found = lookups(&records, answer.first, &mut totals);
+            let found = lookups(&records, answer.first, totals);
             let got = (answer, records, entries);
             if (got != want || !found) && totals.unknown() {
                 let shown = |o: &(Answer, Vec<u32>, Vec<u32>)| format!("{:?} {}", o.0, words(&o.1, &o.2));
-                difference(example.name, &example.code, &shown(&got), &shown(&want));
+                difference(example.name, &shown_code(&example.code), &shown(&got), &shown(&want));
             }
         }
         println!("{}", example.name);
     }
+}
+
+fn main() {
+    let mut totals = Totals::default();
+    settled_codes(&mut totals);
+    settled_texts(&mut totals);
     totals.finish("settled")
 }

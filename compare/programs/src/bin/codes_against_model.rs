@@ -1,7 +1,7 @@
 //! Our whole answers and whole stores against the model of document 01, at every small capacity of the stores.
-//! usage: against_model [SEED [COUNT]]
+//! usage: codes_against_model [SEED [COUNT]]
 use compare::codes::{build, damage, Shape, Tagged};
-use compare::report::{difference, number, shrunk, words, Progress, Refusals, Totals};
+use compare::report::{difference, number, shown_code, shrunk, words, Progress, Refusals, Totals};
 use compare::rng::Rng;
 use compare::station::{self, Answer};
 use compare::{edges, model, pools, ENTRY, RECORD};
@@ -35,7 +35,7 @@ fn report(code: &[u8], pool: &[u8], room: Room) {
     let (ours, paper) = both(&small);
     let shown = |o: &Outcome| format!("{:?} {}", o.0, words(&o.1, &o.2));
     let what = format!("stores of {} and {} words, pool {:?}", room.0, room.1, &pool[..pool.len().min(40)]);
-    difference(&what, &small, &shown(&ours), &shown(&paper));
+    difference(&what, &shown_code(&small), &shown(&ours), &shown(&paper));
 }
 
 /// Codes of one sort.
@@ -230,8 +230,8 @@ fn lookups(seed: u64, count: usize, all: &mut Totals) {
             found += paper.next;
             refused += (paper.number != 0) as u64;
             if ours != paper && totals.unknown() {
-                let what = format!("lookup of {offset} in {records} records: {}", words(&store, &[]));
-                difference(&what, &[], &format!("{ours:?}"), &format!("{paper:?}"));
+                let store = format!("{records} {}", words(&store, &[]));
+                difference(&format!("lookup of {offset}"), &store, &format!("{ours:?}"), &format!("{paper:?}"));
             }
         }
     }
@@ -250,5 +250,5 @@ fn main() {
     every_code(&mut rng, &mut all);
     built_codes(seed, count, &mut all);
     lookups(seed, count, &mut all);
-    all.finish("against_model")
+    all.finish("codes_against_model")
 }

@@ -1,10 +1,10 @@
-//! Our decoding and lookup against the crate's. usage: against_crate [SEED [COUNT]], COUNT codes for each pool
+//! Our decoding and lookup against the crate's. usage: codes_against_crate [SEED [COUNT]], COUNT codes for each pool
 use cafebabe::bytecode::ByteCode;
 use cafebabe::visible::Pool;
 use compare::codes::{large, small, Tagged};
 use compare::crate_side::{self, Indices};
 use compare::pools::{self, MadePool};
-use compare::report::{difference, number, shrunk, words, Progress, Refusals, Totals};
+use compare::report::{difference, number, shown_code, shrunk, words, Progress, Refusals, Totals};
 use compare::rng::Rng;
 use compare::station::{self, Answer};
 use compare::{edges, ENTRY, RECORD};
@@ -212,9 +212,9 @@ impl<'a> Section<'a> {
         let small = shrunk(code, differs);
         match judge_alone(&small, self.made, self.which) {
             Verdict::Different(what, ours, theirs) => {
-                difference(&format!("{what}, pool of {}", self.made.name), &small, &ours, &theirs)
+                difference(&format!("{what}, pool of {}", self.made.name), &shown_code(&small), &ours, &theirs)
             }
-            _ => difference("not the same twice", code, "", ""),
+            _ => difference("not the same twice", &shown_code(code), "", ""),
         }
     }
 
@@ -289,5 +289,5 @@ fn main() {
         built_codes(pool, seed, count / 200, true, &mut all);
     }
     println!("known difference: tableswitch from -2147483648 to 2147483647, here refusal 10: {} times", all.known);
-    all.finish("against_crate")
+    all.finish("codes_against_crate")
 }
