@@ -1,24 +1,20 @@
 -- The reading and the picture agree, first for a section, then for a method.
 use Prim.Native.Nat.{ℕ, zero, suc, _+_, _-_, _%_, _^_, _≤_, _<_}
-use mathlib.Core.Bool.{Bool, true, false}
 use mathlib.Core.List.{List, _++_, append-assoc}
-use mathlib.Core.Logic.{_↔_}
 use mathlib.Core.Path.{_≡_, refl, sym, ap, _∙_, subst}
 use native.Mathlib.Omega.{arith}
 use lib.ListN.{length, take, drop, length-append, length-drop, take-append-drop}
 use lib.Seq.{length-take-le, drop-drop, take-at, drop-append-seam}
 use Rattle.laws.specs.Bytes.{AreBytes}
-use Rattle.read.specs.Reads.{bigEndian, bytesOf, bytesAt, after}
-use Rattle.read.proofs.Laws.{read-past, read-found}
+use Rattle.read.specs.Reads.{bytesOf}
+use Rattle.read.proofs.Laws.{read-found}
 use Rattle.read.proofs.Written.{found-exactly}
 use Rattle.bundle.specs.declared.Section.{Section}
 use Rattle.bundle.specs.declared.Sections.{Sections}
-use Rattle.bundle.specs.declared.SectionRead.{SectionRead}
-use Rattle.bundle.specs.declared.SectionRead.the-variants.{Whole, CutShort}
-use Rattle.bundle.specs.declared.Next.{Next}
+use Rattle.bundle.specs.declared.SectionRead.the-variants.{Whole}
 use Rattle.bundle.specs.declared.Next.the-variants as next
-use Rattle.bundle.specs.Reading.{bytesFrom, afterLength, sectionOf, thenSection, methodOf, nextOf}
-use Rattle.bundle.specs.Picture.{sectionBytes, methodBytes, sectionFrom, sectionsFrom, MethodAt}
+use Rattle.bundle.specs.Reading.{afterLength, sectionOf, methodOf, nextOf}
+use Rattle.bundle.specs.Picture.{sectionBytes, sectionFrom, sectionsFrom, MethodAt}
 use Rattle.bundle.specs.Theorems.{MethodExactly}
 use Rattle.bundle.proofs.Laws.{bytes-fit, method-whole}
 use Rattle.bundle.proofs.Inside.{sizeAt, section-whole, then-whole, same-sections, method-of}
@@ -66,6 +62,11 @@ module _ (n : ℕ) (bundle : List ℕ) (at : ℕ) (section : Section) (wide : 0 
       let enough : size ≤ length bundle - (at + n) = omega arith in
       ap (afterLength bundle) number ∙ bytes-fit bundle size (at + n) enough ∙ ap Whole (sym (d .places))
 
+-- a section that stands at an offset, and what is left past it
+drawn-at : (n : ℕ) (bundle : List ℕ) (at : ℕ) (bytes rest : List ℕ) → length bytes < 256 ^ n → drop at bundle ≡ sectionBytes n bytes ++ rest → SectionAt n bundle at (sectionFrom n at bytes)
+drawn-at n bundle at bytes rest h e =
+    record { bytes = bytes; fits = h; begins = e ∙ ap (sectionBytes n bytes ++_) (sym (section-past n bundle at bytes rest e)); places = refl }
+
 -- a method's bytes and what follows, section by section
 regrouped : (a b c d rest : List ℕ) → (a ++ (b ++ (c ++ d))) ++ rest ≡ a ++ (b ++ (c ++ (d ++ rest)))
 regrouped a b c d rest = simp append-assoc
@@ -96,11 +97,6 @@ module _ (bundle : List ℕ) (at : ℕ) where
         places = placed at (name .bytes) (descriptor .bytes) (pool .bytes) (code .bytes) (name .places) (descriptor .places) (pool .places) (code .places);
       }
 
-  -- a section that stands at an offset, and what is left past it
-  drawn-at : (n at : ℕ) (bytes rest : List ℕ) → length bytes < 256 ^ n → drop at bundle ≡ sectionBytes n bytes ++ rest → SectionAt n bundle at (sectionFrom n at bytes)
-  drawn-at n at bytes rest h e =
-      record { bytes = bytes; fits = h; begins = e ∙ ap (sectionBytes n bytes ++_) (sym (section-past n bundle at bytes rest e)); places = refl }
-
 module _ (bundle : List ℕ) (at : ℕ) (sections : Sections) (are : AreBytes bundle) where
   method-drawn : methodOf bundle at ≡ next.Method sections → MethodAt bundle at sections
   unfolding methodOf
@@ -125,10 +121,10 @@ module _ (bundle : List ℕ) (at : ℕ) (sections : Sections) (are : AreBytes bu
       let code-at = section-past 2 bundle _ (m .pool) _ pool-at in
       let long = simp (length-append, length-drop, length-bytes) at (ap length name-at) in
       sym (method-whole bundle at (λ e. omega arith)
-      (section-read 2 bundle at _ (omega arith) are (drawn-at bundle at 2 at (m .name) _ (m .name-fits) name-at))
-      (section-read 2 bundle _ _ (omega arith) are (drawn-at bundle at 2 _ (m .descriptor) _ (m .descriptor-fits) descriptor-at))
-      (section-read 2 bundle _ _ (omega arith) are (drawn-at bundle at 2 _ (m .pool) _ (m .pool-fits) pool-at))
-      (section-read 4 bundle _ _ (omega arith) are (drawn-at bundle at 4 _ (m .code) _ (m .code-fits) code-at)))
+      (section-read 2 bundle at _ (omega arith) are (drawn-at 2 bundle at (m .name) _ (m .name-fits) name-at))
+      (section-read 2 bundle _ _ (omega arith) are (drawn-at 2 bundle _ (m .descriptor) _ (m .descriptor-fits) descriptor-at))
+      (section-read 2 bundle _ _ (omega arith) are (drawn-at 2 bundle _ (m .pool) _ (m .pool-fits) pool-at))
+      (section-read 4 bundle _ _ (omega arith) are (drawn-at 4 bundle _ (m .code) _ (m .code-fits) code-at)))
       ∙ ap next.Method (sym (m .places))
 
 pub method-exactly : MethodExactly

@@ -19,39 +19,46 @@ ghost use lib.ListN.{length};
 ghost use Rattle.records.specs.Records.{entryRoom};
 ghost use Rattle.lookup.specs.Lookup.{Sorted};
 ghost use Rattle.jumps.specs.Stored.{storedEntries, Held, AllHeld};
-ghost use Rattle.bundle.specs.Theorems.{SectionInside, SectionsInside};
+ghost use Rattle.bundle.specs.Theorems.{SectionsInside};
 
 // The most bytes of a bundle that are shown.
 const BUNDLE_ROOM: usize = 1048576;
+
+// The words of as many records as the longest code has bytes, and of more entries than it has words.
+const RECORD_ROOM: usize = 393210;
+
+const ENTRY_ROOM: usize = 32768;
+
+// The bytes of the longest name and the longest descriptor.
+const IDENTIFIER_ROOM: usize = 131070;
 
 // The bytes of a text that are shown at once, and the room for them where each is written as four.
 const CHUNK: usize = 1024;
 
 const CHUNK_ROOM: usize = 4096;
 
-// Room for a bundle, for the records and entries of the longest code, and for the longest identifier.
 fn bundle_buffer() -> [u8; BUNDLE_ROOM]
     ensures { λ r. ⌜ 1048576 ≡ length r ⌝ }
 {
     [0; BUNDLE_ROOM]
 }
 
-fn record_store() -> [u32; 393210]
+fn record_store() -> [u32; RECORD_ROOM]
     ensures { λ r. ⌜ 393210 ≡ length r ⌝ }
 {
-    [0; 393210]
+    [0; RECORD_ROOM]
 }
 
-fn entry_store() -> [u32; 32768]
+fn entry_store() -> [u32; ENTRY_ROOM]
     ensures { λ r. ⌜ 32768 ≡ length r ⌝ }
 {
-    [0; 32768]
+    [0; ENTRY_ROOM]
 }
 
-fn identifier_buffer() -> [u8; 131070]
+fn identifier_buffer() -> [u8; IDENTIFIER_ROOM]
     ensures { λ r. ⌜ 131070 ≡ length r ⌝ }
 {
-    [0; 131070]
+    [0; IDENTIFIER_ROOM]
 }
 
 fn print(bytes: &[u8]) {
