@@ -14,7 +14,7 @@ use Rattle.phrases.specs.Puts.{Puts}
 use Rattle.phrases.specs.Numbers.{digit, digitsWithin, decimal, signed, blanks, padLeft}
 use Rattle.phrases.proofs.Puts.{puts-then, puts-byte, puts-as}
 
-one-or-more : (n : ℕ) → (n < 10) ⊎ (10 ≤ n)
+pub one-or-more : (n : ℕ) → (n < 10) ⊎ (10 ≤ n)
 one-or-more n = go (ltb n 10) refl
   where
     go : (t : Bool) → ltb n 10 ≡ t → (n < 10) ⊎ (10 ≤ n)

@@ -5,12 +5,14 @@ use mathlib.Core.List.{List, [], _∷_, _++_}
 use mathlib.Core.Path.{_≡_, refl, sym, ap, _∙_}
 use native.Mathlib.Numerals.{sub-one}
 use native.Mathlib.Omega.{arith}
-use borrow.Author.Tests.{eq-eqb, ne-eqb, not-true}
-use lib.Dec.{eqb}
+use borrow.Author.Tests.{eq-eqb, ne-eqb, not-true, leb-true}
+use lib.Dec.{eqb, leb}
 use lib.ListN.{length, getD, take, drop}
 use Rattle.laws.specs.Bytes.{byte, every}
 use Rattle.laws.proofs.Lists.{here, done}
+use Rattle.phrases.specs.Puts.{Puts}
 use Rattle.phrases.specs.Texts.{isBar, table, hasNoBar, beforeBar, afterBar, item}
+use Rattle.phrases.proofs.Puts.{puts-as}
 
 pub item-none : (n : ℕ) → item n [] ≡ []
 unfolding item beforeBar afterBar
@@ -68,3 +70,45 @@ pub part-is-item :
 part-is-item texts n start end e l =
     let all : end - start ≡ length (beforeBar (drop start texts)) = omega arith in
     ap (λ (k : ℕ). take k (drop start texts)) all ∙ taken (drop start texts) ∙ e
+
+-- a text without a bar, the bar after it, and the rest
+module _ (rest : List ℕ) where
+  before-first : (text : List ℕ) → So (hasNoBar text) → beforeBar (text ++ byte "|" ∷ rest) ≡ text
+  unfolding beforeBar every
+  before-first [] h = refl
+  before-first (b ∷ text) h =
+      let both = and-eq-true-iff (not (isBar b)) (hasNoBar text) .0 h in
+      rw (not-true (isBar b) (both .0), beforeBar) (ap (λ (s : List ℕ). b ∷ s) (before-first text (both .1)))
+
+  after-first : (text : List ℕ) → So (hasNoBar text) → afterBar (text ++ byte "|" ∷ rest) ≡ rest
+  unfolding afterBar every
+  after-first [] h = refl
+  after-first (b ∷ text) h =
+      let both = and-eq-true-iff (not (isBar b)) (hasNoBar text) .0 h in
+      rw (not-true (isBar b) (both .0), afterBar) (after-first text (both .1))
+
+-- the text with a number in a table is the one with that number in the list of its texts
+pub item-table : (texts : List (List ℕ)) (n : ℕ) → So (every hasNoBar texts) → item n (table texts) ≡ getD texts n []
+unfolding item table every
+item-table [] n h = item-none n
+item-table (text ∷ texts) zero h = before-first (table texts) text (and-eq-true-iff (hasNoBar text) (every hasNoBar texts) .0 h .0)
+item-table (text ∷ texts) (suc n) h =
+    let both = and-eq-true-iff (hasNoBar text) (every hasNoBar texts) .0 h in
+    ap (item n) (after-first (table texts) text (both .0)) ∙ item-table texts n (both .1)
+
+-- none of them is longer than so many bytes
+abbrev pub within : ℕ → List ℕ → Bool
+within most text = leb (length text) most
+
+pub text-short : (texts : List (List ℕ)) (most n : ℕ) → So (every (within most) texts) → length (getD texts n []) ≤ most
+unfolding every
+text-short [] most n h = omega arith
+text-short (text ∷ texts) most zero h = leb-true _ _ (and-eq-true-iff (within most text) (every (within most) texts) .0 h .0)
+text-short (text ∷ texts) most (suc n) h = text-short texts most n (and-eq-true-iff (within most text) (every (within most) texts) .0 h .1)
+
+module _ (texts : List (List ℕ)) (most : ℕ) (bars : So (every hasNoBar texts)) (short : So (every (within most) texts)) where
+  pub item-short : (n : ℕ) → length (item n (table texts)) ≤ most
+  item-short n = omega (arith, ap length (item-table texts n bars), text-short texts most n short)
+
+  pub puts-item : (n : ℕ) {at r : ℕ} {old new : List ℕ} → Puts (length (item n (table texts))) old at (item n (table texts)) new r → Puts most old at (getD texts n []) new r
+  puts-item n h = puts-as (item-table texts n bars) (item-short n) h
