@@ -39,7 +39,7 @@ const MNEMONICS: [u8; 1546] =
     |||||||||||||||||||||||||||||||||||||||||||||||||||\
     impdep1|impdep2|";
 
-fn table() -> [u8; 1546]
+fn texts() -> [u8; 1546]
     ensures { λ r. ⌜ r ≡ mnemonicTable ⌝ }
 {
     MNEMONICS
@@ -50,6 +50,6 @@ pub fn put_mnemonic(byte: u8, out: &mut [u8], at: usize) -> usize
     requires { ⌜ at + 15 ≤ length (now out) ⌝ }
     ensures { λ r. ⌜ Puts 15 (now (out .entry)) at (mnemonicOf byte) (now (out .exit)) r ⌝ }
 {
-    let texts = table();
-    phrases::put_item(&texts, byte as usize, out, at)
+    let table = texts();
+    phrases::put_item(&table, byte as usize, out, at)
 }

@@ -106,9 +106,13 @@ text-short [] most n h = omega arith
 text-short (text ∷ texts) most zero h = leb-true _ _ (and-eq-true-iff (within most text) (every (within most) texts) .0 h .0)
 text-short (text ∷ texts) most (suc n) h = text-short texts most n (and-eq-true-iff (within most text) (every (within most) texts) .0 h .1)
 
-module _ (texts : List (List ℕ)) (most : ℕ) (bars : So (every hasNoBar texts)) (short : So (every (within most) texts)) where
-  pub item-short : (n : ℕ) → length (item n (table texts)) ≤ most
-  item-short n = omega (arith, ap length (item-table texts n bars), text-short texts most n short)
+-- a table's bytes by its texts
+module _ (texts : List (List ℕ)) (most : ℕ) (bars : So (every hasNoBar texts)) (short : So (every (within most) texts)) {bytes : List ℕ} (is : bytes ≡ table texts) (n : ℕ) where
+  item-is : item n bytes ≡ getD texts n []
+  item-is = ap (item n) is ∙ item-table texts n bars
 
-  pub puts-item : (n : ℕ) {at r : ℕ} {old new : List ℕ} → Puts (length (item n (table texts))) old at (item n (table texts)) new r → Puts most old at (getD texts n []) new r
-  puts-item n h = puts-as (item-table texts n bars) (item-short n) h
+  pub item-short : length (item n bytes) ≤ most
+  item-short = omega (arith, ap length item-is, text-short texts most n short)
+
+  pub puts-item : {at r : ℕ} {old new : List ℕ} → Puts (length (item n bytes)) old at (item n bytes) new r → Puts most old at (getD texts n []) new r
+  puts-item h = puts-as item-is item-short h
