@@ -45,11 +45,19 @@ fn texts() -> [u8; 1546]
     MNEMONICS
 }
 
-// The mnemonic of a byte, and nothing for one that is no instruction.
+// The mnemonic of a kind, which is the byte of an instruction, and nothing for any other number.
+pub fn put_kind(kind: u32, out: &mut [u8], at: usize) -> usize
+    requires { ⌜ at + 15 ≤ length (now out) ⌝ }
+    ensures { λ r. ⌜ Puts 15 (now (out .entry)) at (mnemonicOf kind) (now (out .exit)) r ⌝ }
+{
+    let table = texts();
+    phrases::put_item(&table, kind as usize, out, at)
+}
+
+// The mnemonic of a byte of the code.
 pub fn put_mnemonic(byte: u8, out: &mut [u8], at: usize) -> usize
     requires { ⌜ at + 15 ≤ length (now out) ⌝ }
     ensures { λ r. ⌜ Puts 15 (now (out .entry)) at (mnemonicOf byte) (now (out .exit)) r ⌝ }
 {
-    let table = texts();
-    phrases::put_item(&table, byte as usize, out, at)
+    put_kind(byte as u32, out, at)
 }

@@ -108,7 +108,7 @@ text-short (text ∷ texts) most (suc n) h = text-short texts most n (and-eq-tru
 
 -- a table's bytes by its texts
 module _ (texts : List (List ℕ)) (most : ℕ) (bars : So (every hasNoBar texts)) (short : So (every (within most) texts)) {bytes : List ℕ} (is : bytes ≡ table texts) (n : ℕ) where
-  item-is : item n bytes ≡ getD texts n []
+  pub item-is : item n bytes ≡ getD texts n []
   item-is = ap (item n) is ∙ item-table texts n bars
 
   pub item-short : length (item n bytes) ≤ most
