@@ -92,7 +92,7 @@ operandsOf format.TableSwitch pool r = signed (r .b) ++ ascii " to " ++ signed (
 operandsOf format.LookupSwitch pool r = counted (r .b) (ascii " pair") (ascii " pairs") ++ otherwise r
 operandsOf format.NoInstruction pool r = []
 
-unfoldable pub hasOperands : Format → Bool
+abbrev pub hasOperands : Format → Bool
 hasOperands format.Plain = false
 hasOperands format.SignedByte = true
 hasOperands format.SignedShort = true
@@ -138,10 +138,12 @@ acceptedLine instructions entries =
     ascii "accepted, " ++ counted instructions (ascii " instruction") (ascii " instructions")
     ++ ascii ", " ++ counted entries (ascii " switch entry") (ascii " switch entries") ++ newline
 
+abbrev pub refusal : ℕ → ℕ → ℕ → List ℕ
+refusal number place second = ascii "refused, " ++ decimal number ++ ascii " at " ++ decimal place ++ ascii ", second number " ++ decimal second
+
 abbrev pub refusedLine : ℕ → ℕ → ℕ → List ℕ
 refusedLine number place second =
-    ascii "refused, " ++ decimal number ++ ascii " at " ++ decimal place ++ ascii ", second number " ++ decimal second
-    ++ ascii ": " ++ orElse (meaningOf number) (ascii "a number without a meaning") ++ newline
+    refusal number place second ++ ascii ": " ++ orElse (meaningOf number) (ascii "a number without a meaning") ++ newline
 
 abbrev pub sumLine : ℕ → ℕ → ℕ → List ℕ
 sumLine methods accepted refused =

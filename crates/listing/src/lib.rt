@@ -15,10 +15,10 @@ ghost use Rattle.laws.specs.Bytes.{ascii};
 ghost use Rattle.phrases.specs.Puts.{Puts};
 ghost use Rattle.phrases.specs.Texts.{item};
 ghost use Rattle.phrases.specs.Numbers.{decimal, signed, padRight};
-ghost use Rattle.opcodes.specs.Wide.{wideFormOf};
+ghost use Rattle.opcodes.specs.Formats.{formatOf};
 ghost use Rattle.mnemonics.specs.Mnemonics.{mnemonicOf};
 ghost use Rattle.listing.specs.Names.{orElse, kindTable, arrayTable, meaningTable, kindName, arrayType, meaningOf};
-ghost use Rattle.listing.specs.Lines.{target, counted, named, increment, indexed, followed, modified, otherwise, hasOperands, operandsOf, instruction, shownAt, lining, lineOutput, instructionLine, entryLine, acceptedLine, refusedLine, sumLine};
+ghost use Rattle.listing.specs.Lines.{target, counted, named, increment, indexed, followed, modified, otherwise, hasOperands, operandsOf, instruction, shownAt, lining, lineOutput, instructionLine, entryLine, acceptedLine, refusal, refusedLine, sumLine};
 
 // The room that a line must find. On paper: `lineRoom`.
 pub const LINE_ROOM: usize = 160;
@@ -186,7 +186,7 @@ fn put_count(count: u32, out: &mut [u8], at: usize) -> usize
 
 fn put_followed(after: Follow, record: Record, out: &mut [u8], at: usize) -> usize
     requires { ⌜ at + 22 ≤ length (now out) ⌝ }
-    ensures { λ r. ⌜ Puts 22 (now (out .entry)) at (followed after record) (now (out .exit)) r ⌝ }
+    ensures { λ r. ⌜ Puts 22 (now (out .entry)) at (followed after «record») (now (out .exit)) r ⌝ }
 {
     match after {
         Follow::Nothing => at,
@@ -198,7 +198,7 @@ fn put_followed(after: Follow, record: Record, out: &mut [u8], at: usize) -> usi
 
 fn put_otherwise(record: Record, out: &mut [u8], at: usize) -> usize
     requires { ⌜ at + 30 ≤ length (now out) ⌝ }
-    ensures { λ r. ⌜ Puts 30 (now (out .entry)) at (otherwise record) (now (out .exit)) r ⌝ }
+    ensures { λ r. ⌜ Puts 30 (now (out .entry)) at (otherwise «record») (now (out .exit)) r ⌝ }
 {
     let next = phrases::put_text(b", default ", out, at);
     put_target(record.offset, record.a, out, next)
@@ -207,7 +207,7 @@ fn put_otherwise(record: Record, out: &mut [u8], at: usize) -> usize
 // The instruction that wide modifies.
 fn put_modified(form: WideForm, record: Record, out: &mut [u8], at: usize) -> usize
     requires { ⌜ at + 59 ≤ length (now out) ⌝ }
-    ensures { λ r. ⌜ Puts 59 (now (out .entry)) at (modified form record) (now (out .exit)) r ⌝ }
+    ensures { λ r. ⌜ Puts 59 (now (out .entry)) at (modified form «record») (now (out .exit)) r ⌝ }
 {
     match form {
         WideForm::Local => {
@@ -227,7 +227,7 @@ fn put_modified(form: WideForm, record: Record, out: &mut [u8], at: usize) -> us
 // The keys of a tableswitch, and where any other leads.
 fn put_range(record: Record, out: &mut [u8], at: usize) -> usize
     requires { ⌜ at + 76 ≤ length (now out) ⌝ }
-    ensures { λ r. ⌜ Puts 76 (now (out .entry)) at (signed (record .b) ++ ascii " to " ++ signed (record .c) ++ otherwise record) (now (out .exit)) r ⌝ }
+    ensures { λ r. ⌜ Puts 76 (now (out .entry)) at (signed («record» .b) ++ ascii " to " ++ signed («record» .c) ++ otherwise «record») (now (out .exit)) r ⌝ }
 {
     let end = phrases::put_signed(record.b, out, at);
     let next = phrases::put_text(b" to ", out, end);
@@ -237,7 +237,7 @@ fn put_range(record: Record, out: &mut [u8], at: usize) -> usize
 
 fn put_pairs(record: Record, out: &mut [u8], at: usize) -> usize
     requires { ⌜ at + 70 ≤ length (now out) ⌝ }
-    ensures { λ r. ⌜ Puts 70 (now (out .entry)) at (counted (record .b) (ascii " pair") (ascii " pairs") ++ otherwise record) (now (out .exit)) r ⌝ }
+    ensures { λ r. ⌜ Puts 70 (now (out .entry)) at (counted («record» .b) (ascii " pair") (ascii " pairs") ++ otherwise «record») (now (out .exit)) r ⌝ }
 {
     let end = put_counted(record.b as usize, b" pair", b" pairs", out, at);
     put_otherwise(record, out, end)
@@ -245,7 +245,7 @@ fn put_pairs(record: Record, out: &mut [u8], at: usize) -> usize
 
 fn put_entry_index(pool: &[u8], after: Follow, record: Record, out: &mut [u8], at: usize) -> usize
     requires { ⌜ at + 64 ≤ length (now out) ⌝ }
-    ensures { λ r. ⌜ Puts 64 (now (out .entry)) at (indexed (now (pool .entry)) (record .a) ++ followed after record) (now (out .exit)) r ⌝ }
+    ensures { λ r. ⌜ Puts 64 (now (out .entry)) at (indexed (now (pool .entry)) («record» .a) ++ followed after «record») (now (out .exit)) r ⌝ }
 {
     let end = put_index(pool, record.a, out, at);
     put_followed(after, record, out, end)
@@ -254,7 +254,7 @@ fn put_entry_index(pool: &[u8], after: Follow, record: Record, out: &mut [u8], a
 // The operands of an instruction, by its format.
 fn put_operands(format: Format, pool: &[u8], record: Record, out: &mut [u8], at: usize) -> usize
     requires { ⌜ at + 76 ≤ length (now out) ⌝ }
-    ensures { λ r. ⌜ Puts 76 (now (out .entry)) at (operandsOf format (now (pool .entry)) record) (now (out .exit)) r ⌝ }
+    ensures { λ r. ⌜ Puts 76 (now (out .entry)) at (operandsOf format (now (pool .entry)) «record») (now (out .exit)) r ⌝ }
 {
     match format {
         Format::Plain => at,
@@ -304,4 +304,162 @@ fn put_column(byte: u8, out: &mut [u8], at: usize) -> usize
 {
     let end = mnemonics::put_mnemonic(byte, out, at);
     phrases::put_blanks(phrases::missing(16, end - at), out, end)
+}
+
+// The mnemonic of an instruction without operands.
+fn put_byte_name(byte: u8, out: &mut [u8], at: usize) -> usize
+    requires { ⌜ at + 20 ≤ length (now out) ⌝ }
+    ensures { λ r. ⌜ Puts 20 (now (out .entry)) at (named (mnemonicOf byte) byte) (now (out .exit)) r ⌝ }
+{
+    let end = mnemonics::put_mnemonic(byte, out, at);
+    if end == at {
+        return phrases::put_decimal(byte as usize, out, at);
+    }
+    end
+}
+
+fn put_instruction(byte: u8, pool: &[u8], record: Record, out: &mut [u8], at: usize) -> usize
+    requires { ⌜ at + 107 ≤ length (now out) ⌝ }
+    ensures { λ r. ⌜ Puts 107 (now (out .entry)) at (instruction (formatOf byte) byte (now (pool .entry)) «record») (now (out .exit)) r ⌝ }
+{
+    let formats = opcodes::formats();
+    let format = opcodes::format_of(&formats, byte);
+    if !has_operands(format) {
+        return put_byte_name(byte, out, at);
+    }
+    let start = put_column(byte, out, at);
+    put_operands(format, pool, record, out, start)
+}
+
+// What stands in the code at the record's offset.
+fn put_shown(code: &[u8], pool: &[u8], record: Record, out: &mut [u8], at: usize) -> usize
+    requires { ⌜ at + 107 ≤ length (now out) ⌝ }
+    ensures { λ r. ⌜ Puts 107 (now (out .entry)) at (shownAt (now (code .entry)) (now (pool .entry)) «record») (now (out .exit)) r ⌝ }
+{
+    let offset = record.offset as usize;
+    if offset < code.len() {
+        return put_instruction(code[offset], pool, record, out, at);
+    }
+    phrases::put_text(b"past the end", out, at)
+}
+
+fn put_instruction_line(code: &[u8], pool: &[u8], record: Record, out: &mut [u8], at: usize) -> usize
+    requires { ⌜ at + 138 ≤ length (now out) ⌝ }
+    ensures { λ r. ⌜ Puts 138 (now (out .entry)) at (instructionLine (now (code .entry)) (now (pool .entry)) «record») (now (out .exit)) r ⌝ }
+{
+    let colon = phrases::put_decimal_right(8, record.offset as usize, out, at);
+    let start = phrases::put_text(b": ", out, colon);
+    let end = put_shown(code, pool, record, out, start);
+    phrases::put_text(b"\n", out, end)
+}
+
+fn put_entry_line(offset: u32, entry: SwitchEntry, out: &mut [u8], at: usize) -> usize
+    requires { ⌜ at + 71 ≤ length (now out) ⌝ }
+    ensures { λ r. ⌜ Puts 71 (now (out .entry)) at (entryLine offset entry) (now (out .exit)) r ⌝ }
+{
+    let colon = phrases::put_signed_right(27, entry.key, out, at);
+    let start = phrases::put_text(b": ", out, colon);
+    let end = put_target(offset, entry.jump, out, start);
+    phrases::put_text(b"\n", out, end)
+}
+
+fn put_accepted_line(instructions: usize, entries: usize, out: &mut [u8], at: usize) -> usize
+    requires { ⌜ at + 93 ≤ length (now out) ⌝ }
+    ensures { λ r. ⌜ Puts 93 (now (out .entry)) at (acceptedLine instructions entries) (now (out .exit)) r ⌝ }
+{
+    let first = phrases::put_text(b"accepted, ", out, at);
+    let end = put_counted(instructions, b" instruction", b" instructions", out, first);
+    let second = phrases::put_text(b", ", out, end);
+    let last = put_counted(entries, b" switch entry", b" switch entries", out, second);
+    phrases::put_text(b"\n", out, last)
+}
+
+fn put_refusal(number: u32, place: usize, second: u32, out: &mut [u8], at: usize) -> usize
+    requires { ⌜ at + 89 ≤ length (now out) ⌝ }
+    ensures { λ r. ⌜ Puts 89 (now (out .entry)) at (refusal number place second) (now (out .exit)) r ⌝ }
+{
+    let first = phrases::put_text(b"refused, ", out, at);
+    let end = phrases::put_decimal(number as usize, out, first);
+    let next = phrases::put_text(b" at ", out, end);
+    let last = phrases::put_decimal(place, out, next);
+    let third = phrases::put_text(b", second number ", out, last);
+    phrases::put_decimal(second as usize, out, third)
+}
+
+fn put_refused_line(number: u32, place: usize, second: u32, out: &mut [u8], at: usize) -> usize
+    requires { ⌜ at + 142 ≤ length (now out) ⌝ }
+    ensures { λ r. ⌜ Puts 142 (now (out .entry)) at (refusedLine number place second) (now (out .exit)) r ⌝ }
+{
+    let colon = put_refusal(number, place, second, out, at);
+    let start = phrases::put_text(b": ", out, colon);
+    let end = put_meaning(number, out, start);
+    phrases::put_text(b"\n", out, end)
+}
+
+fn put_sum_line(methods: usize, accepted: usize, refused: usize, out: &mut [u8], at: usize) -> usize
+    requires { ⌜ at + 90 ≤ length (now out) ⌝ }
+    ensures { λ r. ⌜ Puts 90 (now (out .entry)) at (sumLine methods accepted refused) (now (out .exit)) r ⌝ }
+{
+    let first = phrases::put_text(b"methods ", out, at);
+    let end = phrases::put_decimal(methods, out, first);
+    let second = phrases::put_text(b", accepted ", out, end);
+    let next = phrases::put_decimal(accepted, out, second);
+    let third = phrases::put_text(b", refused ", out, next);
+    let last = phrases::put_decimal(refused, out, third);
+    phrases::put_text(b"\n", out, last)
+}
+
+// The line of an instruction's record, over its code and the tags of its pool.
+pub fn instruction_line(code: &[u8], pool: &[u8], record: Record, out: &mut [u8]) -> Output
+    ensures answers { λ r. ⌜ r ≡ lining (instructionLine (now (code .entry)) (now (pool .entry)) «record») (length (now (out .entry))) ⌝ }
+    ensures writes { λ r. ⌜ now (out .exit) ≡ lineOutput (instructionLine (now (code .entry)) (now (pool .entry)) «record») (now (out .entry)) ⌝ }
+{
+    if out.len() < LINE_ROOM {
+        return Output::Refused(TOO_SHORT, 0);
+    }
+    Output::Written(put_instruction_line(code, pool, record, out, 0))
+}
+
+// The line of an entry of the switch at an offset.
+pub fn entry_line(offset: u32, entry: SwitchEntry, out: &mut [u8]) -> Output
+    ensures answers { λ r. ⌜ r ≡ lining (entryLine offset entry) (length (now (out .entry))) ⌝ }
+    ensures writes { λ r. ⌜ now (out .exit) ≡ lineOutput (entryLine offset entry) (now (out .entry)) ⌝ }
+{
+    if out.len() < LINE_ROOM {
+        return Output::Refused(TOO_SHORT, 0);
+    }
+    Output::Written(put_entry_line(offset, entry, out, 0))
+}
+
+// The line of an accepted method.
+pub fn accepted_line(instructions: usize, entries: usize, out: &mut [u8]) -> Output
+    ensures answers { λ r. ⌜ r ≡ lining (acceptedLine instructions entries) (length (now (out .entry))) ⌝ }
+    ensures writes { λ r. ⌜ now (out .exit) ≡ lineOutput (acceptedLine instructions entries) (now (out .entry)) ⌝ }
+{
+    if out.len() < LINE_ROOM {
+        return Output::Refused(TOO_SHORT, 0);
+    }
+    Output::Written(put_accepted_line(instructions, entries, out, 0))
+}
+
+// The line of a refused method.
+pub fn refused_line(number: u32, place: usize, second: u32, out: &mut [u8]) -> Output
+    ensures answers { λ r. ⌜ r ≡ lining (refusedLine number place second) (length (now (out .entry))) ⌝ }
+    ensures writes { λ r. ⌜ now (out .exit) ≡ lineOutput (refusedLine number place second) (now (out .entry)) ⌝ }
+{
+    if out.len() < LINE_ROOM {
+        return Output::Refused(TOO_SHORT, 0);
+    }
+    Output::Written(put_refused_line(number, place, second, out, 0))
+}
+
+// The line on all methods.
+pub fn sum_line(methods: usize, accepted: usize, refused: usize, out: &mut [u8]) -> Output
+    ensures answers { λ r. ⌜ r ≡ lining (sumLine methods accepted refused) (length (now (out .entry))) ⌝ }
+    ensures writes { λ r. ⌜ now (out .exit) ≡ lineOutput (sumLine methods accepted refused) (now (out .entry)) ⌝ }
+{
+    if out.len() < LINE_ROOM {
+        return Output::Refused(TOO_SHORT, 0);
+    }
+    Output::Written(put_sum_line(methods, accepted, refused, out, 0))
 }
