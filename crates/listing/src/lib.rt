@@ -343,7 +343,13 @@ fn put_shown(code: &[u8], pool: &[u8], record: Record, out: &mut [u8], at: usize
     phrases::put_text(b"past the end", out, at)
 }
 
-fn put_instruction_line(code: &[u8], pool: &[u8], record: Record, out: &mut [u8], at: usize) -> usize
+fn put_instruction_line(
+    code: &[u8],
+    pool: &[u8],
+    record: Record,
+    out: &mut [u8],
+    at: usize,
+) -> usize
     requires { ⌜ at + 138 ≤ length (now out) ⌝ }
     ensures { λ r. ⌜ Puts 138 (now (out .entry)) at (instructionLine (now (code .entry)) (now (pool .entry)) «record») (now (out .exit)) r ⌝ }
 {

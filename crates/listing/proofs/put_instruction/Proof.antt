@@ -13,9 +13,10 @@ returns : tie.Need-returns
 returns c =
     let h1 = c .before .before .before .before .before in
     let i1 = c .before .before .before .before in
+    let a = c .before .before .before .before .before .before .before .before .before .before .before in
     let f1 = c .before .before .before .before .before .before in
     let p1 = c .before .before in
-    puts-as (instruction-plain _ _ _ _ (h1 .has-operands .ensures) (not-true _ (i1 .if1 .taken)) ∙ ap (λ (f : Format). instruction f _ _ _) (f1 .format-of .ensures)) (omega arith) (p1 .put-byte-name .ensures)
+    puts-as (instruction-plain _ _ _ _ (h1 .has-operands .ensures) (not-true _ (i1 .if1 .taken)) ∙ ap (λ (f : Format). instruction f (a .args .byte) (a .args .pool .now) (a .args .«record»)) (f1 .format-of .ensures)) (omega arith) (p1 .put-byte-name .ensures)
 
 returns-2 : tie.Need-returns-2
 returns-2 c =
@@ -23,8 +24,9 @@ returns-2 c =
     let p1 = p2 .before .before .before .before in
     let h1 = c .before .before .before .before .before .before .before .before .before in
     let i1 = c .before .before .before .before .before .before .before .before in
+    let a = c .before .before .before .before .before .before .before .before .before .before .before .before .before .before .before in
     let f1 = c .before .before .before .before .before .before .before .before .before .before in
-    puts-as (instruction-operands _ _ _ _ (h1 .has-operands .ensures) (not-false _ (i1 .if1 .left)) ∙ ap (λ (f : Format). instruction f _ _ _) (f1 .format-of .ensures)) (omega arith) (puts-then (p1 .put-column .ensures) (p2 .put-operands .ensures))
+    puts-as (instruction-operands _ _ _ _ (h1 .has-operands .ensures) (not-false _ (i1 .if1 .left)) ∙ ap (λ (f : Format). instruction f (a .args .byte) (a .args .pool .now) (a .args .«record»)) (f1 .format-of .ensures)) (omega arith) (puts-then (p1 .put-column .ensures) (p2 .put-operands .ensures))
 
 pub put-instruction-spec : {M : Type 1} → statement M
 put-instruction-spec =
