@@ -1,26 +1,21 @@
-use native.Mathlib.Omega.{arith}
 use borrow.Author.Needs.{needs}
+use Rattle.listing.proofs.Escapes.{shown-refused, shown-written}
 use Rattle.listing.proofs.shown.Statement.{statement}
 use Rattle.listing.proofs.shown.Tie as tie
-use Rattle.listing.proofs.shown.Reads as reads
-use Rattle.listing.proofs.shown.Lts as lts
-use Rattle.listing.proofs.put_shown_text.Reads as put-shown-text-reads
 
--- src/lib.rt:523:9
 returns : tie.Need-returns
-returns c = ?
+returns c =
+    let a = c .before .before .before in
+    shown-refused (a .args .text .now) (a .args .out .now) (c .if1 .taken)
 
--- src/lib.rt:525:21
-put-shown-text-requires : tie.Need-put-shown-text-requires
-put-shown-text-requires c κs = search needs
-
--- src/lib.rt:518:1
-same-length : tie.Need-same-length
-same-length c = search needs
-
--- src/lib.rt:518:1
 returns-2 : tie.Need-returns-2
-returns-2 c = ?
+returns-2 c =
+    let a = c .before .before .before .before .before .before .before in
+    let i1 = c .before .before .before .before in
+    let p1 = c .before .before in
+    shown-written (a .args .text .now) (a .args .out .now) (i1 .if1 .left) (p1 .put-shown-text .ensures)
 
 pub shown-spec : {M : Type 1} → statement M
-shown-spec = tie.close (tie.spec returns put-shown-text-requires same-length returns-2)
+shown-spec =
+    tie.close
+    (tie.spec returns (λ c κs. search needs) (λ c. search needs) returns-2)
