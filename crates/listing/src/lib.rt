@@ -9,7 +9,7 @@ use records::Record;
 use records::SwitchEntry;
 ghost use mathlib.Core.Path.{_≡_};
 ghost use mathlib.Core.List.{_++_};
-ghost use Prim.Native.Nat.{_+_, _≤_};
+ghost use Prim.Native.Nat.{_+_, _*_, _≤_, _<_};
 ghost use lib.ListN.{length, getD};
 ghost use Rattle.laws.specs.Bytes.{ascii};
 ghost use Rattle.phrases.specs.Puts.{Puts};
@@ -19,6 +19,7 @@ ghost use Rattle.opcodes.specs.Formats.{formatOf};
 ghost use Rattle.mnemonics.specs.Mnemonics.{mnemonicOf};
 ghost use Rattle.listing.specs.Names.{orElse, kindTable, arrayTable, meaningTable, kindName, arrayType, meaningOf};
 ghost use Rattle.listing.specs.Lines.{target, counted, named, increment, indexed, followed, modified, otherwise, hasOperands, operandsOf, instruction, shownAt, lining, lineOutput, instructionLine, entryLine, acceptedLine, refusal, refusedLine, sumLine};
+ghost use Rattle.listing.specs.Escapes.{hexDigit, isPlain, shownByte, shownText, showing, shownOutput};
 
 // The room that a line must find. On paper: `lineRoom`.
 pub const LINE_ROOM: usize = 160;
@@ -468,4 +469,58 @@ pub fn sum_line(methods: usize, accepted: usize, refused: usize, out: &mut [u8])
         return Output::Refused(TOO_SHORT, 0);
     }
     Output::Written(put_sum_line(methods, accepted, refused, out, 0))
+}
+
+fn hex_digit(d: u8) -> u8
+    requires { ⌜ d < 16 ⌝ }
+    ensures { λ r. ⌜ r ≡ hexDigit d ⌝ }
+{
+    if d < 10 {
+        return b'0' + d;
+    }
+    b'a' + (d - 10)
+}
+
+fn is_plain(byte: u8) -> bool
+    ensures { λ r. ⌜ r ≡ isPlain byte ⌝ }
+{
+    (0x20 <= byte) & (byte <= 0x7e) & (byte != b'\\')
+}
+
+// A byte as it is, or escaped where it might steer a terminal.
+fn put_shown_byte(byte: u8, out: &mut [u8], at: usize) -> usize
+    requires { ⌜ at + 4 ≤ length (now out) ⌝ }
+    ensures { λ r. ⌜ Puts 4 (now (out .entry)) at (shownByte byte) (now (out .exit)) r ⌝ }
+{
+    if is_plain(byte) {
+        let itself = [byte];
+        return phrases::put_text(&itself, out, at);
+    }
+    let digits = [hex_digit(byte / 16), hex_digit(byte % 16)];
+    let next = phrases::put_text(b"\\x", out, at);
+    phrases::put_text(&digits, out, next)
+}
+
+fn put_shown_text(text: &[u8], out: &mut [u8]) -> usize
+    requires { ⌜ length (now text) * 4 ≤ length (now out) ⌝ }
+    ensures { λ r. ⌜ Puts (length (now (text .entry)) * 4) (now (out .entry)) 0 (shownText (now (text .entry))) (now (out .exit)) r ⌝ }
+{
+    let mut next = 0;
+    let mut i = 0;
+    while i < text.len() {
+        next = put_shown_byte(text[i], out, next);
+        i += 1;
+    }
+    next
+}
+
+// A text of any bytes, such as a name, as a terminal may show it.
+pub fn shown(text: &[u8], out: &mut [u8]) -> Output
+    ensures answers { λ r. ⌜ r ≡ showing (now (text .entry)) (length (now (out .entry))) ⌝ }
+    ensures writes { λ r. ⌜ now (out .exit) ≡ shownOutput (now (text .entry)) (now (out .entry)) ⌝ }
+{
+    if out.len() / 4 < text.len() {
+        return Output::Refused(TOO_SHORT, 0);
+    }
+    Output::Written(put_shown_text(text, out))
 }
