@@ -3,8 +3,10 @@ use Rattle.opcodes.specs.Formats.{formats, formatOf}
 use Rattle.opcodes.specs.Wide.{wideFormOf}
 use Rattle.phrases.specs.Numbers.{digitsWithin, decimal, signed, padLeft, padRight}
 use Rattle.mnemonics.specs.Mnemonics.{mnemonics, mnemonicOf}
-use Rattle.listing.specs.Names.{orElse, kindNames, kindName, arrayTypes, arrayType, meanings, meaningOf}
-use Rattle.listing.specs.Lines.{lining, counted, followed, modified, operandsOf, instruction, shownAt}
+use Rattle.wording.specs.Names.{orElse, kindNames, kindName, arrayTypes, arrayType}
+use Rattle.wording.specs.Operands.{counted, followed, modified, operandsOf}
+use Rattle.listing.specs.Meanings.{meanings, meaningOf}
+use Rattle.listing.specs.Lines.{lining, instruction, shownAt}
 use Rattle.listing.specs.Examples.{InstructionLinesCompute, PastTheEndComputes, EntryLinesCompute, AcceptedLinesCompute, RefusedLinesCompute, SumLineComputes, RoomsCompute}
 
 pub instruction-lines-compute : InstructionLinesCompute

@@ -1,4 +1,4 @@
-pub mod Names
+pub mod Meanings
 pub mod Lines
 pub mod Examples
 pub mod Escapes

@@ -1,6 +1,6 @@
 use mathlib.Core.Path.{refl}
 use Rattle.phrases.specs.Texts.{table}
-use Rattle.listing.specs.Names.{meaningTable, meanings}
+use Rattle.listing.specs.Meanings.{meaningTable, meanings}
 use Rattle.listing.proofs.meanings.Statement.{statement}
 use Rattle.listing.proofs.meanings.Tie as tie
 

@@ -1,6 +1,6 @@
 use native.Mathlib.Omega.{arith}
 use borrow.Author.Needs.{needs}
-use Rattle.listing.proofs.Laws.{puts-other, puts-text}
+use Rattle.wording.proofs.Laws.{puts-other, puts-text}
 use Rattle.listing.proofs.put_byte_name.Statement.{statement}
 use Rattle.listing.proofs.put_byte_name.Tie as tie
 

@@ -5,8 +5,9 @@ use borrow.Author.Needs.{needs}
 use Rattle.laws.specs.Bytes.{ascii}
 use Rattle.phrases.proofs.Texts.{item-short, puts-item}
 use Rattle.phrases.proofs.Puts.{puts-as}
-use Rattle.listing.specs.Names.{meanings, meaningTable, meaningOf}
-use Rattle.listing.proofs.Laws.{puts-other, puts-text, meaning-bars, meanings-short}
+use Rattle.listing.specs.Meanings.{meanings, meaningTable, meaningOf}
+use Rattle.wording.proofs.Laws.{puts-other, puts-text}
+use Rattle.listing.proofs.Laws.{meaning-bars, meanings-short}
 use Rattle.listing.proofs.put_meaning.Statement.{statement}
 use Rattle.listing.proofs.put_meaning.Tie as tie
 
