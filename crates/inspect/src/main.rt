@@ -151,7 +151,12 @@ fn show_instruction(code: &[u8], pool: &[u8], entries: &[u32], stored: Record)
     let mut out = [0u8; LINE_ROOM];
     let answer = listing::instruction_line(code, pool, stored, &mut out);
     print_written(&out, answer);
-    show_entries(stored.offset, entries, wide(stored.d), jumps::stored_entries(stored));
+    show_entries(
+        stored.offset,
+        entries,
+        wide(stored.d),
+        jumps::stored_entries(stored),
+    );
 }
 
 fn show_instructions(code: &[u8], pool: &[u8], records: &[u32], count: usize, entries: &[u32])

@@ -23,6 +23,7 @@ use Rattle.pool.specs.declared.Kinds.{Kinds}
 use Rattle.pool.specs.Tags.{allowsTag}
 use Rattle.pool.specs.Entries.{entryAt, entryOfKind}
 use Rattle.opcodes.specs.declared.Follow.{Follow}
+use Rattle.opcodes.specs.declared.Format.{Format}
 use Rattle.opcodes.specs.Formats.{numbers}
 use Rattle.opcodes.specs.Operands.{followOf, incrementOf}
 use Rattle.opcodes.specs.Wide.{wideFormOf}
@@ -41,6 +42,7 @@ use Rattle.records.specs.declared.SwitchEntry.{SwitchEntry}
 use Rattle.bytecode.specs.Decoding.{decoding, recordsAfter, entriesAfter}
 use Rattle.station.specs.Station.{decodeAnswer, lookupAnswer, nameAnswer, outputAnswer, partOf, fieldParts, arrayParts, methodParts}
 use Rattle.bundle.specs.Reading.{nextOf}
+use Rattle.wording.specs.Operands.{hasOperands}
 use Rattle.listing.specs.Lines.{lining, lineOutput, instructionLine, entryLine, acceptedLine, refusedLine, sumLine}
 use Rattle.listing.specs.Escapes.{showing, shownOutput}
 
@@ -95,6 +97,8 @@ pub record EntriesPinned : Type 0 where
   pub refused-line : (number place second : ℕ) (out : List ℕ) → AnswerWith (lining (refusedLine number place second) (length out)) (lineOutput (refusedLine number place second) out)
   pub sum-line : (methods accepted refused : ℕ) (out : List ℕ) → AnswerWith (lining (sumLine methods accepted refused) (length out)) (lineOutput (sumLine methods accepted refused) out)
   pub shown : (text out : List ℕ) → AnswerWith (showing text (length out)) (shownOutput text out)
+  pub has-operands : (format : Format) → Answer (hasOperands format)
+  pub missing : (width size : ℕ) → Answer (width - size)
   -- names
   pub is-unqualified-name : (name : List ℕ) → Answer (isUnqualifiedName name)
   pub is-unqualified-method-name : (init clinit : Bool) (name : List ℕ) → Answer (isMethodName init clinit name)
