@@ -7,7 +7,6 @@ use libc::STDIN_FILENO;
 use libc::STDOUT_FILENO;
 use listing::LINE_ROOM;
 use output::Output;
-use records::RECORD_WORDS;
 use records::Record;
 use records::RecordIndex;
 use records::SwitchEntry;
@@ -217,24 +216,6 @@ fn bytes_of(bundle: &[u8], section: Section) -> &[u8]
     &bundle[start..end]
 }
 
-fn least(a: usize, b: usize) -> usize
-    ensures { λ r. ⌜ r ≤ b ⌝ }
-{
-    if a < b { a } else { b }
-}
-
-// As many words of a store as the records of a code can need: a refusal clears what is lent, so no more is lent. Its entries
-// need less than a word for each byte.
-fn record_words(code: usize, store: usize) -> usize
-    ensures { λ r. ⌜ r ≤ store ⌝ }
-{
-    if code < store / RECORD_WORDS {
-        code * RECORD_WORDS
-    } else {
-        store
-    }
-}
-
 // Whether a method is accepted: its identifier and its code.
 fn show_method(
     bundle: &[u8],
@@ -251,14 +232,7 @@ fn show_method(
     let pool = bytes_of(bundle, sections.pool);
     let code = bytes_of(bundle, sections.code);
     let identified = show_identifier(at, name, descriptor, identifier);
-    let records_end = record_words(code.len(), records.len());
-    let entries_end = least(code.len(), entries.len());
-    let decoded = show_code(
-        code,
-        pool,
-        &mut records[..records_end],
-        &mut entries[..entries_end],
-    );
+    let decoded = show_code(code, pool, records, entries);
     print(b"\n");
     identified & decoded
 }
