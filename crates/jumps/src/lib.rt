@@ -96,7 +96,7 @@ fn has_jump(kind: u32) -> bool
 }
 
 // How many entries a record has in the store of entries.
-fn stored_entries(stored: Record) -> u32
+pub fn stored_entries(stored: Record) -> u32
     ensures { λ r. ⌜ r ≡ storedEntries stored ⌝ }
 {
     if stored.kind == TABLE_SWITCH {

@@ -23,6 +23,7 @@ use Rattle.pool.specs.declared.Kinds.{Kinds}
 use Rattle.pool.specs.Tags.{allowsTag}
 use Rattle.pool.specs.Entries.{entryAt, entryOfKind}
 use Rattle.opcodes.specs.declared.Follow.{Follow}
+use Rattle.opcodes.specs.declared.Format.{Format}
 use Rattle.opcodes.specs.Formats.{numbers}
 use Rattle.opcodes.specs.Operands.{followOf, incrementOf}
 use Rattle.opcodes.specs.Wide.{wideFormOf}
@@ -35,8 +36,15 @@ use Rattle.instruction.specs.Steps.{stepOf}
 use Rattle.instruction.specs.Theorems.{entriesOf}
 use Rattle.lookup.specs.Lookup.{lookupOf}
 use Rattle.filling.specs.Filling.{recordOf}
+use Rattle.jumps.specs.Stored.{storedEntries}
+use Rattle.records.specs.declared.Record.{Record}
+use Rattle.records.specs.declared.SwitchEntry.{SwitchEntry}
 use Rattle.bytecode.specs.Decoding.{decoding, recordsAfter, entriesAfter}
 use Rattle.station.specs.Station.{decodeAnswer, lookupAnswer, nameAnswer, outputAnswer, partOf, fieldParts, arrayParts, methodParts}
+use Rattle.bundle.specs.Reading.{nextOf}
+use Rattle.wording.specs.Operands.{hasOperands}
+use Rattle.listing.specs.Lines.{lining, lineOutput, instructionLine, entryLine, acceptedLine, refusedLine, sumLine}
+use Rattle.listing.specs.Escapes.{showing, shownOutput}
 
 -- an answer alone, with the contents of one lent slice afterwards, and with those of two
 abbrev pub Answer : {A : Type 0} → A → Type 0
@@ -81,6 +89,16 @@ pub record EntriesPinned : Type 0 where
   pub nk-is-array-descriptor : (text : List ℕ) → Answer (isArrayText text)
   pub nk-is-return-descriptor : (text : List ℕ) → Answer (isReturnText text)
   pub nk-is-method-descriptor : (text : List ℕ) → Answer (isMethodText text)
+  -- listings
+  pub next-method : (bundle : List ℕ) (at : ℕ) → Answer (nextOf bundle at)
+  pub instruction-line : (code pool : List ℕ) (r : Record) (out : List ℕ) → AnswerWith (lining (instructionLine code pool r) (length out)) (lineOutput (instructionLine code pool r) out)
+  pub entry-line : (offset : ℕ) (entry : SwitchEntry) (out : List ℕ) → AnswerWith (lining (entryLine offset entry) (length out)) (lineOutput (entryLine offset entry) out)
+  pub accepted-line : (instructions entries : ℕ) (out : List ℕ) → AnswerWith (lining (acceptedLine instructions entries) (length out)) (lineOutput (acceptedLine instructions entries) out)
+  pub refused-line : (number place second : ℕ) (out : List ℕ) → AnswerWith (lining (refusedLine number place second) (length out)) (lineOutput (refusedLine number place second) out)
+  pub sum-line : (methods accepted refused : ℕ) (out : List ℕ) → AnswerWith (lining (sumLine methods accepted refused) (length out)) (lineOutput (sumLine methods accepted refused) out)
+  pub shown : (text out : List ℕ) → AnswerWith (showing text (length out)) (shownOutput text out)
+  pub has-operands : (format : Format) → Answer (hasOperands format)
+  pub missing : (width size : ℕ) → Answer (width - size)
   -- names
   pub is-unqualified-name : (name : List ℕ) → Answer (isUnqualifiedName name)
   pub is-unqualified-method-name : (init clinit : Bool) (name : List ℕ) → Answer (isMethodName init clinit name)
@@ -126,6 +144,7 @@ pub record EntriesPinned : Type 0 where
   pub wide-step : (code : List ℕ) (at : CodeOffset) → Answer (wideStep code [] at)
   pub entry-count : (low high : ℕ) → Answer (entryCount low high)
   pub entries-of : (i : Instruction) → Answer (entriesOf i)
+  pub stored-entries : (stored : Record) → Answer (storedEntries stored)
   pub record-of : (offset first : ℕ) (i : Instruction) → Answer (recordOf offset first i)
   -- the parts of a text
   pub begins-with : (text : List ℕ) (at b : ℕ) → Answer (beginsWith b (drop at text))

@@ -17,7 +17,7 @@ use Rattle.read.specs.Reads.{bigEndian, bytesOf, bytesAt, after, readOf}
 use Rattle.read.specs.declared.Read.the-variants.{Value}
 use Rattle.read.specs.Theorems.{FoundExactly}
 
-length-bytes : (n v : ℕ) → length (bytesOf n v) ≡ n
+pub length-bytes : (n v : ℕ) → length (bytesOf n v) ≡ n
 unfolding bytesOf
 length-bytes zero v = refl
 length-bytes (suc n) v = ap suc (length-bytes n (v % 256 ^ n))

@@ -1,0 +1,4 @@
+pub mod Reading
+pub mod Picture
+pub mod Theorems
+pub mod Examples

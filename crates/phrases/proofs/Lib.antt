@@ -1,0 +1,4 @@
+pub mod Puts
+pub mod Texts
+pub mod Numbers
+pub mod Value
