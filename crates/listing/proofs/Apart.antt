@@ -1,6 +1,6 @@
 -- What is shown of each byte, computed once, and of texts by their bytes. A shown text is read back from its front.
 use Prim.Native.Nat.{ℕ, _+_, _-_, _*_, _<_}
-use mathlib.Core.Bool.{Bool, true, false, So, _&&_, and-eq-true-iff, false≢true}
+use mathlib.Core.Bool.{Bool, true, false, So, and-eq-true-iff}
 use mathlib.Core.List.{List, [], _∷_, _++_, List·Memᴰ·head, List·Memᴰ·tail}
 use mathlib.Core.Path.{_≡_, refl, sym, ap, ap₂, _∙_}
 use native.Mathlib.Omega.{arith}
@@ -8,7 +8,7 @@ use borrow.Author.Tests.{eqb-true, ltb-true}
 use lib.Dec.{eqb, ltb}
 use lib.ListN.{length, getD, drop, length-append}
 use lib.Seq.{drop-append-seam}
-use Rattle.laws.specs.Bytes.{AreBytes, every}
+use Rattle.laws.specs.Bytes.{every}
 use Rattle.laws.specs.Listed.{listed}
 use Rattle.laws.proofs.Lists.{every-in}
 use Rattle.laws.proofs.Listed.{in-listed}

@@ -1,12 +1,11 @@
 -- Worked lines. Proved in proofs/Examples.antt.
 use Prim.Native.Nat.{ℕ}
 use Prim.Native.String.{String}
-use mathlib.Core.List.{List, [], _∷_, _++_, map}
+use mathlib.Core.List.{List, [], _∷_, _++_}
 use lib.ListN.{replicate}
 use Rattle.laws.specs.Bytes.{ascii}
 use Rattle.laws.specs.Examples.{Computes}
 use Rattle.records.specs.declared.Record.{Record}
-use Rattle.records.specs.declared.SwitchEntry.{SwitchEntry}
 use Rattle.output.specs.declared.Output.the-variants as output
 use Rattle.listing.specs.Lines.{lining, newline, instructionLine, entryLine, acceptedLine, refusedLine, sumLine}
 

@@ -1,12 +1,12 @@
 -- Each theorem is computed once over the table.
-use Prim.Native.Nat.{ℕ, zero, suc, _+_, _≤_, _<_}
+use Prim.Native.Nat.{ℕ, _+_, _≤_, _<_}
 use mathlib.Core.Bool.{Bool, true, false, So, not, _||_, false≢true}
 use mathlib.Core.List.{List, [], _∷_, _++_, map}
-use mathlib.Core.Path.{_≡_, refl, sym, ap, ap₂, _∙_}
+use mathlib.Core.Path.{_≡_, refl, sym, ap, _∙_}
 use native.Mathlib.Omega.{arith}
 use borrow.Author.Tests.{eqb-true, leb-true, leb-false}
 use lib.Dec.{eqb, leb}
-use lib.ListN.{length, getD, List·getD-map, List·getD-eq-default}
+use lib.ListN.{getD, List·getD-map, List·getD-eq-default}
 use Rattle.laws.specs.Bytes.{ascii, every, sameText}
 use Rattle.laws.specs.Listed.{listed}
 use Rattle.laws.proofs.Bytes.{same-text}

@@ -5,7 +5,7 @@ ghost use Prim.Native.Nat.{_+_, _-_, _≤_};
 ghost use lib.ListN.{length, drop};
 ghost use Rattle.phrases.specs.Puts.{Puts};
 ghost use Rattle.phrases.specs.Texts.{beforeBar, item};
-ghost use Rattle.phrases.specs.Numbers.{decimal, signed, blanks, padLeft, padRight};
+ghost use Rattle.phrases.specs.Numbers.{decimal, signed, blanks, padLeft};
 
 // What ends each text of a table.
 const BAR: u8 = b'|';

@@ -3,7 +3,6 @@ use Prim.Native.Nat.{ℕ}
 use mathlib.Core.List.{List}
 use mathlib.Core.Path.{_≡_, refl}
 use native.Mathlib.Omega.{arith}
-use lib.ListN.{length}
 use Rattle.methods.specs.declared.Method.{Method}
 use Rattle.methods.specs.declared.Method.the-variants as method
 use Rattle.methods.specs.Texts.{methodPrefix, methodText}

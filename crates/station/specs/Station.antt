@@ -1,6 +1,5 @@
 -- The numbers of each answer, as C sees them.
 use Prim.Native.Nat.{ℕ, _≤_}
-use Rattle.read.specs.declared.CodeOffset.{CodeOffset}
 use Rattle.class_names.specs.declared.Checked.{Checked}
 use Rattle.class_names.specs.declared.Checked.the-variants as checked
 use Rattle.descriptors.specs.declared.FieldDescriptor.{FieldDescriptor}

@@ -6,8 +6,6 @@ use lib.ListN.{length, length-set}
 use lib.Seq.{length-take-le}
 use Rattle.replay.proofs.list.read_words.Statement.{statement}
 use Rattle.replay.proofs.list.read_words.Tie as tie
-use Rattle.replay.proofs.list.read_words.Reads as reads
-use Rattle.replay.proofs.list.read_words.Lts as lts
 
 abbrev Inv-loop : tie.InvT-loop
 Inv-loop list store₀ cursor₀ count₀ store cursor count = (length store ≡ length store₀) × (count ≤ length store)
