@@ -6,18 +6,18 @@ use Rattle.opcodes.specs.Wide.{wideFormOf}
 use Rattle.operands.specs.Signed.{signedIn, extended}
 use Rattle.operands.specs.Checks.{signedRead, unlessFault}
 use Rattle.ordinary.specs.Ordinary.{operandsFrom}
-use Rattle.switches.specs.Switches.{wordsFrom, countOf, lookupEntries}
+use Rattle.switches.specs.Switches.{wordsFrom, countOf}
 use Rattle.instruction.specs.Steps.{stepOf}
 use Rattle.lines.specs.Lines.{linesFrom, listOf}
 use Rattle.records.specs.Records.{allEntryWords}
-use Rattle.filling.specs.Filling.{tableFrom, pairsFrom}
+use Rattle.switches.specs.Entries.{tableFrom, pairsFrom}
 use Rattle.jumps.specs.Jumps.{jumpCheck, wordsCheck, allCheck}
 use Rattle.jumps.specs.Stored.{hasJump}
 use Rattle.bytecode.specs.Decoding.{fitting, runFrom, recordsFrom, entriesFrom, jumpWords, decoding, storeAfter}
 use Rattle.bytecode.specs.Examples.{CodesCompute, LimitsCompute}
 
 pub codes-compute : CodesCompute
-unfolding bigEndian readOf formats formatOf kindOf wideFormOf signedIn extended signedRead unlessFault operandsFrom wordsFrom countOf lookupEntries stepOf linesFrom listOf allEntryWords tableFrom pairsFrom jumpCheck wordsCheck allCheck hasJump fitting runFrom recordsFrom entriesFrom jumpWords decoding storeAfter
+unfolding bigEndian readOf formats formatOf kindOf wideFormOf signedIn extended signedRead unlessFault operandsFrom wordsFrom countOf stepOf linesFrom listOf allEntryWords tableFrom pairsFrom jumpCheck wordsCheck allCheck hasJump fitting runFrom recordsFrom entriesFrom jumpWords decoding storeAfter
 codes-compute = refl
 
 pub limits-compute : LimitsCompute

@@ -15,7 +15,8 @@ use Rattle.instruction.proofs.Exactly.{step-within}
 use Rattle.lines.specs.Lines.{Line, Lines, linesFrom}
 use Rattle.lines.proofs.Laws.{lines-more, lines-stop, lines-end}
 use Rattle.records.specs.Records.{recordWords, entryWords, recordRoom, entryRoom, wordsOf, allEntryWords}
-use Rattle.filling.specs.Filling.{entriesIn, recordOf}
+use Rattle.switches.specs.Entries.{entriesIn}
+use Rattle.filling.specs.Filling.{recordOf}
 use Rattle.bytecode.specs.declared.Run.{Run}
 use Rattle.bytecode.specs.declared.Run.the-variants as run
 use Rattle.bytecode.specs.Decoding.{fitting, fitted, runFrom, withRecord, withEntries, recordsFrom, entriesFrom}

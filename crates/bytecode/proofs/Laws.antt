@@ -13,7 +13,8 @@ use Rattle.instruction.specs.Theorems.{entriesOf}
 use Rattle.lines.specs.Lines.{Line, Lines, listOf}
 use Rattle.records.specs.Records.{recordWords, entryWords, index, wordsOf, recordAt, entryAt, allEntryWords}
 use Rattle.records.proofs.Reading.{record-before, entry-before}
-use Rattle.filling.specs.Filling.{entriesIn, recordOf}
+use Rattle.switches.specs.Entries.{entriesIn}
+use Rattle.filling.specs.Filling.{recordOf}
 use Rattle.bytecode.specs.declared.Run.the-variants as run
 use Rattle.bytecode.specs.Decoding.{fitting, runFrom, withRecord, withEntries, recordsFrom, entriesFrom}
 

@@ -29,7 +29,8 @@ use Rattle.records.proofs.Reading.{record-there, entries-there}
 use Rattle.lookup.specs.Lookup.{offsetOf, Sorted}
 use Rattle.jumps.specs.Jumps.{Jumps}
 use Rattle.jumps.specs.Stored.{hasJump, storedEntries, entryJump, storedWords, storedJumps, jumpsIn, Held, AllHeld}
-use Rattle.filling.specs.Filling.{entriesIn, recordOf}
+use Rattle.switches.specs.Entries.{entriesIn}
+use Rattle.filling.specs.Filling.{recordOf}
 use Rattle.filling.proofs.Entries.{all-entries}
 use Rattle.filling.proofs.Decoded.{table-counted, ordinary-kind}
 use Rattle.bytecode.specs.declared.Run.the-variants as run

@@ -12,7 +12,8 @@ use Rattle.instruction.specs.Theorems.{entriesOf}
 use Rattle.lines.specs.Lines.{Line, Lines, linesOf, listOf}
 use Rattle.records.specs.declared.SwitchEntry.{SwitchEntry}
 use Rattle.records.specs.Records.{recordWords, entryWords, recordRoom, entryRoom, wordsOf, allEntryWords}
-use Rattle.filling.specs.Filling.{entriesIn, recordOf}
+use Rattle.switches.specs.Entries.{entriesIn}
+use Rattle.filling.specs.Filling.{recordOf}
 use Rattle.jumps.specs.declared.Checked.{Checked}
 use Rattle.jumps.specs.declared.Checked.the-variants as checked
 use Rattle.jumps.specs.Jumps.{Jumps, check}

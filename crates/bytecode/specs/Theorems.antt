@@ -8,7 +8,8 @@ use lib.Seq.{sets}
 use Rattle.instruction.specs.Theorems.{entriesOf}
 use Rattle.lines.specs.Lines.{Line, Lines, linesOf, listOf}
 use Rattle.records.specs.Records.{recordWords, entryWords, wordsOf, allEntryWords}
-use Rattle.filling.specs.Filling.{entriesIn, recordOf}
+use Rattle.switches.specs.Entries.{entriesIn}
+use Rattle.filling.specs.Filling.{recordOf}
 use Rattle.jumps.specs.Stored.{jumpsIn}
 use Rattle.bytecode.specs.declared.Decoded.the-variants as decoded
 use Rattle.bytecode.specs.Decoding.{recordsFrom, entriesFrom, jumpsOf, decoding, recordsAfter, entriesAfter}

@@ -14,7 +14,8 @@ ghost use lib.ListN.{length};
 ghost use lib.Seq.{sets};
 ghost use Rattle.records.specs.Records.{recordWords, entryWords, recordRoom, entryRoom, wordsOf, allEntryWords};
 ghost use Rattle.instruction.specs.Theorems.{entriesOf};
-ghost use Rattle.filling.specs.Filling.{entriesIn, EntriesInside, recordOf};
+ghost use Rattle.switches.specs.Entries.{entriesIn, EntriesInside};
+ghost use Rattle.filling.specs.Filling.{recordOf};
 ghost use Rattle.bytecode.specs.Decoding.{codeLimit, fitted, runFrom, recordsFrom, entriesFrom, decoding, recordsAfter, entriesAfter, storeAfter};
 
 // Document 01's refusals of a whole code, of its pool table, and for want of room.

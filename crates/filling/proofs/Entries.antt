@@ -6,18 +6,8 @@ use native.Mathlib.Omega.{arith}
 use lib.ListN.{length}
 use Rattle.ordinary.specs.declared.Instruction.the-variants as instruction
 use Rattle.instruction.proofs.Exactly.{step-within}
-use Rattle.filling.specs.Filling.{tableFrom, pairsFrom}
+use Rattle.switches.proofs.Exactly.{length-table, length-pairs}
 use Rattle.filling.specs.Theorems.{AllEntries, DecodedInside}
-
-length-table : (code : List ℕ) (key at n : ℕ) → length (tableFrom code key at n) ≡ n
-unfolding tableFrom
-length-table code key at zero = refl
-length-table code key at (suc n) = ap suc (length-table code _ _ n)
-
-length-pairs : (code : List ℕ) (at n : ℕ) → length (pairsFrom code at n) ≡ n
-unfolding pairsFrom
-length-pairs code at zero = refl
-length-pairs code at (suc n) = ap suc (length-pairs code _ n)
 
 pub all-entries : AllEntries
 all-entries code (instruction.Ordinary kind a b) = refl

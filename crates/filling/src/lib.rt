@@ -13,7 +13,8 @@ ghost use lib.ListN.{length};
 ghost use lib.Seq.{sets};
 ghost use Rattle.records.specs.Records.{entryWords, entryRoom, allEntryWords};
 ghost use Rattle.instruction.specs.Theorems.{entriesOf};
-ghost use Rattle.filling.specs.Filling.{tableFrom, pairsFrom, entriesIn, EntriesInside, recordOf};
+ghost use Rattle.switches.specs.Entries.{tableFrom, pairsFrom, entriesIn, EntriesInside};
+ghost use Rattle.filling.specs.Filling.{recordOf};
 
 // How many entries an instruction has.
 pub fn entries_of(instruction: Instruction) -> u32

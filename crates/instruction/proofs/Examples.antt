@@ -7,7 +7,7 @@ use Rattle.opcodes.specs.Wide.{wideFormOf}
 use Rattle.operands.specs.Signed.{signedIn, extended}
 use Rattle.operands.specs.Checks.{signedRead, unlessFault}
 use Rattle.ordinary.specs.Ordinary.{operandsFrom}
-use Rattle.switches.specs.Switches.{wordsFrom, countOf, lookupEntries}
+use Rattle.switches.specs.Switches.{wordsFrom, countOf}
 use Rattle.instruction.specs.Steps.{stepOf}
 use Rattle.instruction.specs.Examples.{FormatsCompute, RefusalsCompute, SwitchesCompute}
 
@@ -20,5 +20,5 @@ unfolding bigEndian readOf entryAt ofKind formats formatOf kindOf wideFormOf ext
 refusals-compute = refl
 
 pub switches-compute : SwitchesCompute
-unfolding bigEndian readOf formats formatOf kindOf signedIn wordsFrom countOf lookupEntries stepOf
+unfolding bigEndian readOf formats formatOf kindOf signedIn wordsFrom countOf stepOf
 switches-compute = refl

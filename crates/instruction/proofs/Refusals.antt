@@ -7,6 +7,7 @@ use mathlib.Core.Path.{_≡_, refl, sym, subst}
 use native.Mathlib.Omega.{arith}
 use borrow.Author.Tests.{leb-true, leb-false}
 use lib.Dec.{eqb, leb}
+use lib.IntN.{ℤ, pos, negsuc}
 use lib.ListN.{length}
 use Rattle.read.specs.declared.CodeOffset.{CodeOffset}
 use Rattle.read.specs.declared.Read.{Read}
@@ -22,13 +23,14 @@ use Rattle.opcodes.specs.Formats.{formatOf}
 use Rattle.opcodes.specs.Kinds.{kindOf}
 use Rattle.opcodes.specs.Operands.{Meaning, Operand, Layout, layoutOf, wideLayoutOf}
 use Rattle.opcodes.specs.Wide.{wideFormOf}
+use Rattle.operands.specs.Signed.{signedOf}
 use Rattle.operands.specs.Checks.{signedRead, unlessFault, indexFault, zeroFault, isArrayTag, arrayTagFault, meant, operandAt}
 use Rattle.ordinary.specs.declared.Step.{Step}
 use Rattle.ordinary.specs.declared.Step.the-variants as step
 use Rattle.ordinary.specs.Ordinary as ordinary
 use Rattle.ordinary.specs.Ordinary.{thenRead, operandsFrom, wideStep}
-use Rattle.switches.specs.Switches.{padded, wordsFrom, most, entryCount, tableOf, tableStep, lookupEntries, lookupStep}
-use Rattle.switches.proofs.Laws.{no-room, with-room, lookup-refused, lookup-given}
+use Rattle.switches.specs.Switches.{padded, wordsFrom, entryCount, tableOf, tableStep, lookupOf, lookupStep}
+use Rattle.switches.proofs.Laws.{no-room, with-room}
 use Rattle.instruction.specs.Steps.{laidOut, stepOf}
 use Rattle.instruction.specs.Theorems.{StepRefuses}
 
@@ -116,13 +118,11 @@ module _ (code : List ℕ) where
   lookup-number : (at : CodeOffset) → StepNumber (lookupStep code at)
   lookup-number at =
       then-number (readOf 4 code (padded at)) _ (read-number 4 (padded at))
-      (λ default countAt. then-number (readOf 4 code countAt) _ (read-number 4 countAt) (λ count entries. entries-number countAt default count entries (leb count most) refl))
+      (λ default npairsAt. then-number (readOf 4 code npairsAt) _ (read-number 4 npairsAt) (λ npairs entries. entries-number npairsAt default entries (signedOf npairs)))
     where
-      entries-number : (place : CodeOffset) (default count : ℕ) (entries : CodeOffset) (t : Bool) → leb count most ≡ t → StepNumber (lookupEntries code place default count entries)
-      entries-number place default count entries true q =
-          subst StepNumber (lookup-given code place default count entries (leb-true _ _ q) refl)
-          (then-number (wordsFrom (2 * count) code entries) _ (words-number (2 * count) entries) (λ v next. tt))
-      entries-number place default count entries false q = subst StepNumber (lookup-refused code place default count entries (leb-false _ _ q)) (omega arith, omega arith)
+      entries-number : (place : CodeOffset) (default : ℕ) (entries : CodeOffset) (z : ℤ) → StepNumber (lookupOf code place default entries z)
+      entries-number place default entries (pos n) = then-number (wordsFrom (2 * n) code entries) _ (words-number (2 * n) entries) (λ v next. tt)
+      entries-number place default entries (negsuc n) = (omega arith, omega arith)
 
 module _ (code pool : List ℕ) where
   operand-number : (o : Operand) (at : CodeOffset) → ReadNumber (operandAt code pool o at)

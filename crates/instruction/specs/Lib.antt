@@ -3,3 +3,4 @@ pub mod Names
 pub mod Pictures
 pub mod Theorems
 pub mod Examples
+pub mod Drawn

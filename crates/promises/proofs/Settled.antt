@@ -14,7 +14,7 @@ use Rattle.switches.specs.Switches.{wordsFrom, countOf}
 use Rattle.instruction.specs.Steps.{stepOf}
 use Rattle.lines.specs.Lines.{linesFrom, listOf}
 use Rattle.records.specs.Records.{allEntryWords}
-use Rattle.filling.specs.Filling.{tableFrom}
+use Rattle.switches.specs.Entries.{tableFrom}
 use Rattle.jumps.specs.Jumps.{jumpCheck, wordsCheck, allCheck}
 use Rattle.jumps.specs.Stored.{hasJump}
 use Rattle.bytecode.specs.Decoding.{fitting, runFrom, recordsFrom, entriesFrom, jumpWords, decoding, storeAfter}

@@ -5,10 +5,10 @@ use mathlib.Core.Path.{_≡_, refl, sym, ap, ap₂, _∙_}
 use native.Mathlib.Omega.{arith}
 use borrow.Author.Tests.{lt-ltb, le-ltb, le-leb, lt-leb, ltb-true, ltb-false, leb-true, leb-false}
 use lib.Dec.{ltb, leb}
-use lib.IntN.{ℤ, pos, negsuc, negℤ, _+ℤ_, _-ℤ_, negℤ-+ℤ, negℤ-negℤ, +ℤ-assoc, +ℤ-comm, +ℤ-invl, +ℤ-idl}
-use Rattle.operands.specs.Signed.{signedOf}
+use lib.IntN.{ℤ, pos, negsuc, negℤ, _+ℤ_, _-ℤ_, negℤ-+ℤ, negℤ-negℤ, +ℤ-assoc, +ℤ-comm, +ℤ-invl, +ℤ-idl, pos-+ℤ-pos}
+use Rattle.operands.specs.Signed.{signedIn, signedOf, wordOf}
 use Rattle.operands.proofs.Signed.{below-zero, signed-low, signed-high}
-use Rattle.switches.specs.Switches.{most, countOf, entryCount}
+use Rattle.switches.specs.Switches.{mostEntries, countOf, entryCount}
 
 -- a difference of two naturals that is not below zero
 above-zero : (a b : ℕ) → b ≤ a → pos a -ℤ pos b ≡ pos (a - b)
@@ -30,11 +30,11 @@ signed-lifted w h = go (ltb w (2 ^ 31)) refl
         let high : 2 ^ 31 ≤ w = ltb-false _ _ e in
         signed-high 4 w high h ∙ ap negsuc (omega arith) ∙ sym (below-zero ((w + 2 ^ 31) % 2 ^ 32) (2 ^ 31) (omega arith))
 
-count-within : (n : ℕ) → n ≤ most → countOf (pos n) ≡ n
+count-within : (n : ℕ) → n ≤ mostEntries → countOf (pos n) ≡ n
 unfolding countOf
 count-within n h = rw (le-leb _ _ h, countOf)
 
-count-over : (n : ℕ) → most < n → countOf (pos n) ≡ 0
+count-over : (n : ℕ) → mostEntries < n → countOf (pos n) ≡ 0
 unfolding countOf
 count-over n h = rw (lt-leb _ _ h, countOf)
 
@@ -60,23 +60,52 @@ module _ (low high bottom top : ℕ) (l : low < 2 ^ 32) (h : high < 2 ^ 32) (b :
   as-plain : bottom ≤ top → entryCount low high ≡ countOf (pos (top - bottom + 1))
   as-plain c = ap (λ (z : ℤ). countOf (z +ℤ pos 1)) (difference ∙ above-zero top bottom c)
 
-  pub too-many : bottom ≤ top → most ≤ top - bottom → 0 ≡ entryCount low high
+  pub too-many : bottom ≤ top → mostEntries ≤ top - bottom → 0 ≡ entryCount low high
   too-many c m = sym (as-plain c ∙ count-over (top - bottom + 1) (omega arith))
 
-  pub counted : bottom ≤ top → top - bottom < most → top - bottom + 1 ≡ entryCount low high
+  pub counted : bottom ≤ top → top - bottom < mostEntries → top - bottom + 1 ≡ entryCount low high
   counted c m = sym (as-plain c ∙ count-within (top - bottom + 1) (omega arith))
 
 -- a number of entries, and what it counts
-pub counts : (z : ℤ) (n : ℕ) → countOf z ≡ suc n → (z ≡ pos (suc n)) × (suc n ≤ most)
+pub counts : (z : ℤ) (n : ℕ) → countOf z ≡ suc n → (z ≡ pos (suc n)) × (suc n ≤ mostEntries)
 unfolding countOf
 counts (negsuc k) n e = absurd (let z : _≡_ {A = ℕ} 0 (suc n) = e in omega arith)
-counts (pos m) n e = go (leb m most) refl
+counts (pos m) n e = go (leb m mostEntries) refl
   where
-    go : (t : Bool) → leb m most ≡ t → (pos m ≡ pos (suc n)) × (suc n ≤ most)
+    go : (t : Bool) → leb m mostEntries ≡ t → (pos m ≡ pos (suc n)) × (suc n ≤ mostEntries)
     go true q =
         let same : m ≡ suc n = sym (count-within m (leb-true _ _ q)) ∙ e in
         (ap pos same, rw (sym same) (leb-true _ _ q))
     go false q = absurd (let z : _≡_ {A = ℕ} 0 (suc n) = sym (count-over m (leb-false _ _ q)) ∙ e in omega arith)
 
-pub counts-as : (z : ℤ) (n : ℕ) → z ≡ pos n → n ≤ most → countOf z ≡ n
+pub counts-as : (z : ℤ) (n : ℕ) → z ≡ pos n → n ≤ mostEntries → countOf z ≡ n
 counts-as z n e h = ap countOf e ∙ count-within n h
+
+-- the word that stores a signed number and so many more
+high-word : (word : ℕ) → 2 ^ 31 ≤ word → signedOf word ≡ pos word -ℤ pos (2 ^ 32)
+unfolding signedIn
+high-word word h = rw (le-ltb _ _ h, signedIn)
+
+pub word-further : (word i : ℕ) → (word + i) % 2 ^ 32 ≡ wordOf (signedOf word +ℤ pos i)
+word-further word i = go (ltb word (2 ^ 31)) refl
+  where
+    moved : (pos word -ℤ pos (2 ^ 32)) +ℤ pos i ≡ pos (word + i) -ℤ pos (2 ^ 32)
+    moved =
+        +ℤ-assoc (pos word) (negℤ (pos (2 ^ 32))) (pos i)
+        ∙ ap (λ (z : ℤ). pos word +ℤ z) (+ℤ-comm (negℤ (pos (2 ^ 32))) (pos i))
+        ∙ sym (+ℤ-assoc (pos word) (pos i) (negℤ (pos (2 ^ 32))))
+        ∙ ap (λ (z : ℤ). z -ℤ pos (2 ^ 32)) (pos-+ℤ-pos word i)
+
+    high : (t : Bool) → ltb (word + i) (2 ^ 32) ≡ t → (word + i) % 2 ^ 32 ≡ wordOf (pos (word + i) -ℤ pos (2 ^ 32))
+    high true e =
+        let below : word + i < 2 ^ 32 = ltb-true _ _ e in
+        sym (ap wordOf (below-zero (word + i) (2 ^ 32) below) ∙ omega arith)
+    high false e =
+        let above : 2 ^ 32 ≤ word + i = ltb-false _ _ e in
+        sym (ap wordOf (above-zero (word + i) (2 ^ 32) above) ∙ omega arith)
+
+    go : (t : Bool) → ltb word (2 ^ 31) ≡ t → (word + i) % 2 ^ 32 ≡ wordOf (signedOf word +ℤ pos i)
+    go true e = sym (ap (λ (z : ℤ). wordOf (z +ℤ pos i)) (signed-low 4 word (ltb-true _ _ e)) ∙ ap wordOf (pos-+ℤ-pos word i))
+    go false e =
+        let top : 2 ^ 31 ≤ word = ltb-false _ _ e in
+        high (ltb (word + i) (2 ^ 32)) refl ∙ sym (ap wordOf (ap (λ (z : ℤ). z +ℤ pos i) (high-word word top) ∙ moved))

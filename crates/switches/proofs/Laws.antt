@@ -1,5 +1,5 @@
 -- Words that are read in turn, and those that do not fit.
-use Prim.Native.Nat.{ℕ, zero, suc, _+_, _-_, _*_, _/_, _≤_, _<_}
+use Prim.Native.Nat.{ℕ, zero, suc, _+_, _-_, _*_, _/_, _^_, _≤_, _<_}
 use mathlib.Core.List.{List}
 use mathlib.Core.Path.{_≡_, refl, sym, ap, _∙_}
 use native.Mathlib.Omega.{arith}
@@ -12,10 +12,11 @@ use Rattle.read.specs.declared.Read.{Read}
 use Rattle.read.specs.declared.Read.the-variants as read
 use Rattle.read.specs.Reads.{after}
 use Rattle.read.proofs.Laws.{read-past, read-found}
+use Rattle.operands.proofs.Signed.{signed-low, signed-high}
 use Rattle.ordinary.specs.declared.Instruction.the-variants as instruction
 use Rattle.ordinary.specs.declared.Step.the-variants as step
 use Rattle.ordinary.specs.Ordinary.{thenRead}
-use Rattle.switches.specs.Switches.{wordsFrom, most, entryCount, tableOf, tableEntries, lookupEntries}
+use Rattle.switches.specs.Switches.{wordsFrom, mostEntries, entryCount, tableOf, tableEntries, lookupOf, lookupEntries}
 
 pub at-place : {i j : ℕ} → i ≡ j → _≡_ {A = CodeOffset} (record { 0 = i }) (record { 0 = j })
 at-place e = ap (λ (k : ℕ). record { 0 = k }) e
@@ -70,13 +71,11 @@ module _ (code : List ℕ) (place : CodeOffset) (default low high : ℕ) (entrie
       ap (λ (r : Read). thenRead r (λ v next. step.Decoded (instruction.TableSwitch default low high entries (suc k)) next)) w
       ∙ ap (tableOf code place default low high entries) e
 
-module _ (code : List ℕ) (place : CodeOffset) (default count : ℕ) (entries : CodeOffset) where
-  pub lookup-refused : most < count → step.Refused 11 place ≡ lookupEntries code place default count entries
-  unfolding lookupEntries
-  lookup-refused h = sym (rw (lt-leb _ _ h, lookupEntries))
+module _ (code : List ℕ) (place : CodeOffset) (default npairs : ℕ) (entries : CodeOffset) where
+  pub lookup-refused : mostEntries < npairs → npairs < 2 ^ 32 → step.Refused 11 place ≡ lookupEntries code place default npairs entries
+  lookup-refused h l = sym (ap (lookupOf code place default entries) (signed-high 4 npairs (omega arith) l))
 
-  pub lookup-given : count ≤ most → {r : Read} → r ≡ wordsFrom (2 * count) code entries → thenRead r (λ v next. step.Decoded (instruction.LookupSwitch default entries count) next) ≡ lookupEntries code place default count entries
-  unfolding lookupEntries
+  pub lookup-given : npairs ≤ mostEntries → {r : Read} → r ≡ wordsFrom (2 * npairs) code entries → thenRead r (λ v next. step.Decoded (instruction.LookupSwitch default entries npairs) next) ≡ lookupEntries code place default npairs entries
   lookup-given h w =
-      ap (λ (r : Read). thenRead r (λ v next. step.Decoded (instruction.LookupSwitch default entries count) next)) w
-      ∙ sym (rw (le-leb _ _ h, lookupEntries))
+      ap (λ (r : Read). thenRead r (λ v next. step.Decoded (instruction.LookupSwitch default entries npairs) next)) w
+      ∙ sym (ap (lookupOf code place default entries) (signed-low 4 npairs (omega arith)))

@@ -1,3 +1,5 @@
 pub mod Switches
+pub mod Entries
 pub mod Pictures
 pub mod Theorems
+pub mod Examples

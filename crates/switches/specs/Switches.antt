@@ -24,12 +24,12 @@ wordsFrom zero code at = read.Value 0 at
 wordsFrom (suc count) code at = elim (readOf 4 code at) [ read.Value v next ↦ wordsFrom count code next | read.Refused n p ↦ read.Refused n p ]
 
 -- document 01: at most so many entries, which is the largest signed word
-abbrev pub most : ℕ
-most = 2147483647
+abbrev pub mostEntries : ℕ
+mostEntries = 2147483647
 
 -- how many entries a table from low to high has, as signed numbers: none where low > high, and none where they are too many
 unfoldable pub countOf : ℤ → ℕ
-countOf (pos n) = elim (leb n most) [ true ↦ n | false ↦ 0 ]
+countOf (pos n) = elim (leb n mostEntries) [ true ↦ n | false ↦ 0 ]
 countOf (negsuc n) = 0
 
 abbrev pub entryCount : ℕ → ℕ → ℕ
@@ -53,14 +53,15 @@ tableStep code at =
     (λ low highAt. thenRead (readOf 4 code highAt) (λ high entries. tableEntries code highAt default low high entries)))
 
 -- JVMS 6.5 lookupswitch: a default, npairs, and so many pairs of a key and an offset. 11: npairs is negative
-unfoldable pub lookupEntries : List ℕ → CodeOffset → ℕ → ℕ → CodeOffset → Step
-lookupEntries code place default count entries =
-    elim (leb count most) [
-      | true ↦ thenRead (wordsFrom (2 * count) code entries) (λ v next. step.Decoded (instruction.LookupSwitch default entries count) next)
-      | false ↦ step.Refused 11 place
-    ]
+abbrev pub lookupOf : List ℕ → CodeOffset → ℕ → CodeOffset → ℤ → Step
+lookupOf code place default entries (pos n) =
+    thenRead (wordsFrom (2 * n) code entries) (λ v next. step.Decoded (instruction.LookupSwitch default entries n) next)
+lookupOf code place default entries (negsuc n) = step.Refused 11 place
+
+abbrev pub lookupEntries : List ℕ → CodeOffset → ℕ → ℕ → CodeOffset → Step
+lookupEntries code place default npairs entries = lookupOf code place default entries (signedOf npairs)
 
 abbrev pub lookupStep : List ℕ → CodeOffset → Step
 lookupStep code at =
     thenRead (readOf 4 code (padded at))
-    (λ default countAt. thenRead (readOf 4 code countAt) (λ count entries. lookupEntries code countAt default count entries))
+    (λ default npairsAt. thenRead (readOf 4 code npairsAt) (λ npairs entries. lookupEntries code npairsAt default npairs entries))

@@ -11,6 +11,7 @@ use Rattle.ordinary.specs.declared.Instruction.{Instruction}
 use Rattle.ordinary.specs.declared.Step.{Step}
 use Rattle.ordinary.specs.declared.Step.the-variants as step
 use Rattle.switches.specs.Switches.{tableStep, lookupStep}
+use Rattle.switches.specs.Entries.{entriesIn}
 use Rattle.switches.specs.Pictures.{TablePicture, LookupPicture}
 
 -- decoded exactly where the picture's bytes stand
@@ -26,3 +27,15 @@ TableExactly = SwitchExactly tableStep TablePicture
 
 abbrev pub LookupExactly : Type 0
 LookupExactly = SwitchExactly lookupStep LookupPicture
+
+-- The entries that are read from the code are those of the picture that stands there: proved as `table-entries-drawn`,
+-- `lookup-entries-drawn`
+abbrev pub TableEntriesDrawn : Type 0
+TableEntriesDrawn =
+    (code : List ℕ) (at : CodeOffset) (i : Instruction) (bytes : List ℕ) (t : TablePicture at i bytes) → Stand code at bytes
+    → entriesIn code i ≡ t .entries
+
+abbrev pub LookupEntriesDrawn : Type 0
+LookupEntriesDrawn =
+    (code : List ℕ) (at : CodeOffset) (i : Instruction) (bytes : List ℕ) (t : LookupPicture at i bytes) → Stand code at bytes
+    → entriesIn code i ≡ t .entries

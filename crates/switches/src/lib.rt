@@ -15,7 +15,7 @@ pub const BAD_BOUNDS: u32 = 10;
 pub const NEGATIVE_COUNT: u32 = 11;
 
 // The largest number of entries, and of pairs.
-const MOST: u32 = 0x7fff_ffff;
+const MOST_ENTRIES: u32 = 0x7fff_ffff;
 
 // The word at the next offset divisible by 4, counted from the code's start: the default of either switch.
 fn default_read(code: &[u8], at: CodeOffset) -> Read
@@ -114,7 +114,7 @@ fn lookup_entries(
 ) -> Step
     ensures { λ r. ⌜ r ≡ lookupEntries (now (code .entry)) place default count entries ⌝ }
 {
-    if MOST < count {
+    if MOST_ENTRIES < count {
         return Step::Refused(NEGATIVE_COUNT, place);
     }
     match skip_words(code, entries, 2 * count) {

@@ -23,7 +23,7 @@ use Rattle.lines.specs.Lines.{Line, Lines, linesOf, listOf}
 use Rattle.lines.specs.Theorems.{Follow}
 use Rattle.lines.proofs.Exactly.{lines-exactly}
 use Rattle.records.specs.declared.SwitchEntry.{SwitchEntry}
-use Rattle.filling.specs.Filling.{entriesIn}
+use Rattle.switches.specs.Entries.{entriesIn}
 use Rattle.filling.proofs.Entries.{all-entries}
 use Rattle.jumps.specs.declared.Checked.the-variants as checked
 use Rattle.jumps.specs.Jumps.{Jumps, check}

@@ -2,7 +2,7 @@ use Prim.Native.Nat.{_+_, _-_, _*_}
 use mathlib.Core.Path.{_≡_, refl}
 use native.Mathlib.Omega.{arith}
 use borrow.Author.Needs.{needs}
-use Rattle.filling.specs.Filling.{pairsFrom}
+use Rattle.switches.specs.Entries.{pairsFrom}
 use Rattle.filling.proofs.Laws.{Filled, filled-none, filled-next, filled-all}
 use Rattle.filling.proofs.put_pairs.Statement.{statement}
 use Rattle.filling.proofs.put_pairs.Tie as tie

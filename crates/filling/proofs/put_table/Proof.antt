@@ -2,7 +2,7 @@ use Prim.Native.Nat.{_+_, _-_, _*_}
 use mathlib.Core.Path.{_≡_, refl}
 use native.Mathlib.Omega.{arith}
 use borrow.Author.Needs.{needs}
-use Rattle.filling.specs.Filling.{tableFrom}
+use Rattle.switches.specs.Entries.{tableFrom}
 use Rattle.filling.proofs.Laws.{Filled, filled-none, filled-next, filled-all}
 use Rattle.filling.proofs.put_table.Statement.{statement}
 use Rattle.filling.proofs.put_table.Tie as tie

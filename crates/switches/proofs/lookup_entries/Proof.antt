@@ -5,7 +5,7 @@ use Rattle.switches.proofs.lookup_entries.Statement.{statement}
 use Rattle.switches.proofs.lookup_entries.Tie as tie
 
 returns : tie.Need-returns
-returns c = lookup-refused _ _ _ _ _ (c .if1 .taken)
+returns c = lookup-refused _ _ _ _ _ (c .if1 .taken) (search needs)
 
 returns-2 : tie.Need-returns-2
 returns-2 c =

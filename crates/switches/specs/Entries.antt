@@ -1,0 +1,34 @@
+-- The entries of a switch, JVMS 6.5, read from the code: a key and a jump each.
+use Prim.Native.Nat.{ℕ, zero, suc, _+_, _*_, _%_, _^_, _≤_}
+use mathlib.Core.List.{List, [], _∷_}
+use lib.ListN.{length}
+use Rattle.read.specs.Reads.{bigEndian, bytesAt}
+use Rattle.records.specs.declared.SwitchEntry.{SwitchEntry}
+use Rattle.ordinary.specs.declared.Instruction.{Instruction}
+use Rattle.ordinary.specs.declared.Instruction.the-variants as instruction
+
+-- the word of the four bytes at an offset
+abbrev pub wordAt : List ℕ → ℕ → ℕ
+wordAt code at = bigEndian (bytesAt 4 code at)
+
+-- tableswitch: the jumps stand one after the other. The first has the key low and each the next key, in two's complement
+unfoldable pub tableFrom : List ℕ → ℕ → ℕ → ℕ → List SwitchEntry
+tableFrom code key at zero = []
+tableFrom code key at (suc n) = record { key = key % 2 ^ 32; jump = wordAt code at } ∷ tableFrom code (key + 1) (at + 4) n
+
+-- lookupswitch: pairs of a key and its jump
+unfoldable pub pairsFrom : List ℕ → ℕ → ℕ → List SwitchEntry
+pairsFrom code at zero = []
+pairsFrom code at (suc n) = record { key = wordAt code at; jump = wordAt code (at + 4) } ∷ pairsFrom code (at + 8) n
+
+-- The entries of an instruction of the code
+abbrev pub entriesIn : List ℕ → Instruction → List SwitchEntry
+entriesIn code (instruction.Ordinary kind a b) = []
+entriesIn code (instruction.TableSwitch default low high from count) = tableFrom code low (from .0) count
+entriesIn code (instruction.LookupSwitch default from count) = pairsFrom code (from .0) count
+
+-- and that they lie in it
+abbrev pub EntriesInside : List ℕ → Instruction → Type 0
+EntriesInside code (instruction.Ordinary kind a b) = Unit {0}
+EntriesInside code (instruction.TableSwitch default low high from count) = from .0 + 4 * count ≤ length code
+EntriesInside code (instruction.LookupSwitch default from count) = from .0 + 8 * count ≤ length code
