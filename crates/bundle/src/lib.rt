@@ -40,7 +40,7 @@ fn after_length(bundle: &[u8], length: Read) -> SectionRead
         Read::Value(size, next) => {
             let start = next.0;
             let bytes = size as usize;
-            if read::left(bundle, start) < bytes {
+            if read::left(bundle, CodeOffset(start)) < bytes {
                 return SectionRead::CutShort(start);
             }
             SectionRead::Whole(Section {

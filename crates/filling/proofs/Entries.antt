@@ -11,8 +11,8 @@ use Rattle.filling.specs.Theorems.{AllEntries, DecodedInside}
 
 pub all-entries : AllEntries
 all-entries code (instruction.Ordinary kind a b) = refl
-all-entries code (instruction.TableSwitch default low high from count) = length-table code low (from .0) count
-all-entries code (instruction.LookupSwitch default from count) = length-pairs code (from .0) count
+all-entries code (instruction.TableSwitch default low high from count) = length-table code low from count
+all-entries code (instruction.LookupSwitch default from count) = length-pairs code from count
 
 pub entries-inside : DecodedInside
 entries-inside code pool at (instruction.Ordinary kind a b) next e = tt

@@ -3,7 +3,7 @@ use Prim.Native.Nat.{ℕ}
 use mathlib.Core.List.{[], _∷_}
 use Rattle.laws.specs.Examples.{Computes}
 use Rattle.read.specs.declared.CodeOffset.{CodeOffset}
-use Rattle.records.specs.Records.{wordsOf}
+use Rattle.records.specs.Records.{index, wordsOf}
 use Rattle.ordinary.specs.declared.Instruction.{Instruction}
 use Rattle.ordinary.specs.declared.Instruction.the-variants as instruction
 use Rattle.filling.specs.Filling.{recordOf}
@@ -14,7 +14,7 @@ offset i = record { 0 = i }
 -- an instruction at the offset 3, five entries being stored before its own: proved as `records-compute`
 abbrev pub RecordsCompute : Type 0
 RecordsCompute =
-    Computes (λ (i : Instruction). wordsOf (recordOf 3 5 i)) (
+    Computes (λ (i : Instruction). wordsOf (recordOf (offset 3) (index 5) i)) (
     (instruction.Ordinary 0x84 1 0xffff_ffff, 3 ∷ 0x84 ∷ 1 ∷ 0xffff_ffff ∷ 0 ∷ 0 ∷ [])
     ∷ (instruction.TableSwitch 9 0xffff_ffff 0 (offset 16) 2, 3 ∷ 0xaa ∷ 9 ∷ 0xffff_ffff ∷ 0 ∷ 5 ∷ [])
     ∷ (instruction.LookupSwitch 9 (offset 12) 2, 3 ∷ 0xab ∷ 9 ∷ 2 ∷ 0 ∷ 5 ∷ [])

@@ -12,6 +12,7 @@ use Rattle.laws.specs.Listed.{listed}
 use Rattle.laws.proofs.Listed.{map-listed, listed-next, listed-done}
 use Rattle.read.specs.declared.CodeOffset.{CodeOffset}
 use Rattle.records.specs.declared.Record.{Record}
+use Rattle.records.specs.declared.RecordIndex.{RecordIndex}
 use Rattle.records.specs.declared.SwitchEntry.{SwitchEntry}
 use Rattle.records.specs.Records.{index, recordAt, entryAt}
 use Rattle.operands.proofs.Signed.{signed-low, signed-high}
@@ -115,8 +116,8 @@ module _ {A : Type 0} {one : ℕ → A → Checked} {run : ℕ → List A → Ch
     loop-ends h = sym (g .none (i + k)) ∙ ap (run (i + k)) (sym (listed-done f i n h)) ∙ inv
 
 -- the jump of an entry that was read
-pub entry-read : (starts : List ℕ) (at : CodeOffset) (entries : List ℕ) (first i : ℕ) {wide : ℕ} {entry : SwitchEntry} {r : Checked}
-    → wide ≡ i → entry ≡ entryAt entries (index (first + wide)) → r ≡ jumpCheck starts at (i + 1) (targetOf at (entry .jump))
+pub entry-read : (starts : List ℕ) (at : CodeOffset) (entries : List ℕ) (first : RecordIndex) (i : ℕ) {wide : ℕ} {entry : SwitchEntry} {r : Checked}
+    → wide ≡ i → entry ≡ entryAt entries (index (first .0 + wide)) → r ≡ jumpCheck starts at (i + 1) (targetOf at (entry .jump))
     → r ≡ jumpCheck starts at (i + 1) (targetOf at (entryJump entries first i))
 entry-read starts at entries first i w e h = h ∙ rw (e, w)
 
@@ -127,7 +128,7 @@ module _ (starts entries : List ℕ) (stored : Record) where
   no-jump e = rw (e, storedWords)
 
   module _ (has : hasJump (stored .kind) ≡ true) {offset : ℕ} (wide : offset ≡ stored .offset) {own : Checked} (is : own ≡ jumpCheck starts (record { 0 = offset }) 0 (targetOf (record { 0 = offset }) (stored .a))) where
-    both : jumpsCheck starts (storedJumps entries stored) ≡ andThen own (wordsCheck starts (record { 0 = offset }) 1 (listed (entryJump entries (stored .d)) 0 (storedEntries stored)))
+    both : jumpsCheck starts (storedJumps entries stored) ≡ andThen own (wordsCheck starts (record { 0 = offset }) 1 (listed (entryJump entries (index (stored .d))) 0 (storedEntries stored)))
     unfolding storedWords wordsCheck
     both = rw (has, storedWords, is, wide)
 
@@ -135,7 +136,7 @@ module _ (starts entries : List ℕ) (stored : Record) where
     own-fails e = sym (both ∙ rw e)
 
     pub own-lands : {first number : ℕ} {rest : Checked} → own ≡ checked.Good → first ≡ stored .d → number ≡ storedEntries stored
-        → rest ≡ wordsCheck starts (record { 0 = offset }) 1 (listed (entryJump entries first) 0 number) → rest ≡ jumpsCheck starts (storedJumps entries stored)
+        → rest ≡ wordsCheck starts (record { 0 = offset }) 1 (listed (entryJump entries (index first)) 0 number) → rest ≡ jumpsCheck starts (storedJumps entries stored)
     own-lands e d n r = r ∙ rw (d, n) (sym (both ∙ rw e))
 
 -- the instructions of a store start at its offsets

@@ -5,6 +5,7 @@ use mathlib.Core.List.{List, [], _∷_}
 use lib.Dec.{leb, eqb}
 use Rattle.laws.specs.Listed.{listed}
 use Rattle.records.specs.declared.Record.{Record}
+use Rattle.records.specs.declared.RecordIndex.{RecordIndex}
 use Rattle.records.specs.Records.{entryRoom, index, recordAt, entryAt}
 use Rattle.switches.specs.Switches.{entryCount}
 use Rattle.jumps.specs.Jumps.{Jumps}
@@ -22,13 +23,13 @@ storedEntries r =
     ]
 
 -- the jump of entry i of a switch whose first entry has this index
-abbrev pub entryJump : List ℕ → ℕ → ℕ → ℕ
-entryJump entries first i = entryAt entries (index (first + i)) .jump
+abbrev pub entryJump : List ℕ → RecordIndex → ℕ → ℕ
+entryJump entries first i = entryAt entries (index (first .0 + i)) .jump
 
 -- The jumps of a record: word a, and those of its entries, which start at the index in word d
 unfoldable pub storedWords : List ℕ → Record → List ℕ
 storedWords entries r =
-    elim (hasJump (r .kind)) [ true ↦ r .a ∷ listed (entryJump entries (r .d)) 0 (storedEntries r) | false ↦ [] ]
+    elim (hasJump (r .kind)) [ true ↦ r .a ∷ listed (entryJump entries (index (r .d))) 0 (storedEntries r) | false ↦ [] ]
 
 abbrev pub storedJumps : List ℕ → Record → Jumps
 storedJumps entries r = record { at = record { 0 = r .offset }; words = storedWords entries r }

@@ -68,15 +68,15 @@ fn check_entries(
     count: usize,
     entries: &[u32],
     at: CodeOffset,
-    first: usize,
+    first: RecordIndex,
     number: u32,
 ) -> Checked
-    requires { ⌜ Sorted (now (now records)) count × (at .0 < 2 ^ 32) × (first + number ≤ entryRoom (now entries)) ⌝ }
+    requires { ⌜ Sorted (now (now records)) count × (at .0 < 2 ^ 32) × (first .0 + number ≤ entryRoom (now entries)) ⌝ }
     ensures { λ r. ⌜ r ≡ wordsCheck (offsetsOf (now (now (records .entry))) count) at 1 (listed (entryJump (now (entries .entry)) first) 0 number) ⌝ }
 {
     let mut i = 0;
     while i < number {
-        let entry = records::entry_at(entries, RecordIndex(first + wide(i)));
+        let entry = records::entry_at(entries, RecordIndex(first.0 + wide(i)));
         let checked = check_jump(records, count, at, entry.jump, i + 1);
         let Checked::Good = checked else {
             return checked;
@@ -124,7 +124,7 @@ fn check_record(records: &&[u32], count: usize, entries: &[u32], stored: Record)
             count,
             entries,
             at,
-            wide(stored.d),
+            RecordIndex(wide(stored.d)),
             stored_entries(stored),
         );
     }

@@ -66,12 +66,12 @@ lookup-length t =
     ∙ ap₂ (λ (x y : ℕ). length (t .padding) + (x + y)) (t .default-word) (ap₂ (λ (x y : ℕ). x + y) (t .npairs-word) (pair-bytes (t .entries-drawn)))
 
 -- as many entries are read as are asked for
-pub length-table : (code : List ℕ) (key at n : ℕ) → length (tableFrom code key at n) ≡ n
+pub length-table : (code : List ℕ) (key : ℕ) (at : CodeOffset) (n : ℕ) → length (tableFrom code key at n) ≡ n
 unfolding tableFrom
 length-table code key at zero = refl
 length-table code key at (suc n) = ap suc (length-table code _ _ n)
 
-pub length-pairs : (code : List ℕ) (at n : ℕ) → length (pairsFrom code at n) ≡ n
+pub length-pairs : (code : List ℕ) (at : CodeOffset) (n : ℕ) → length (pairsFrom code at n) ≡ n
 unfolding pairsFrom
 length-pairs code at zero = refl
 length-pairs code at (suc n) = ap suc (length-pairs code _ n)
@@ -129,14 +129,14 @@ module _ (code : List ℕ) where
   no-bytes : (at : CodeOffset) → at .0 ≤ length code → Stand code at []
   no-bytes at h = record { within = omega arith; there = refl }
 
-  word-drawn : (at : CodeOffset) → at .0 + 4 ≤ length code → WordDrawn (wordAt code (at .0)) (bytesAt 4 code (at .0)) × ((rest : List ℕ) → Stand code (after 4 at) rest → Stand code at (bytesAt 4 code (at .0) ++ rest))
+  word-drawn : (at : CodeOffset) → at .0 + 4 ≤ length code → WordDrawn (wordAt code at) (bytesAt 4 code (at .0)) × ((rest : List ℕ) → Stand code (after 4 at) rest → Stand code at (bytesAt 4 code (at .0) ++ rest))
   word-drawn at h =
       let s = stand-here 4 at h in (
         record { four = s .0; is = refl },
         λ rest r. stand-join code at (bytesAt 4 code (at .0)) rest (s .1) (subst (λ (k : ℕ). Stand code (after k at) rest) (sym (s .0)) r),
       )
 
-  table-there : (count word : ℕ) (key : ℤ) (at : CodeOffset) → at .0 + 4 * count ≤ length code → Keyed word key → Drawn (TableEntries key) (tableFrom code word (at .0) count) at
+  table-there : (count word : ℕ) (key : ℤ) (at : CodeOffset) → at .0 + 4 * count ≤ length code → Keyed word key → Drawn (TableEntries key) (tableFrom code word at count) at
   unfolding tableFrom
   table-there zero word key at h k = record { bytes = []; drawn = TableEntries.none; stand = no-bytes at (omega arith) }
   table-there (suc count) word key at h k =
@@ -149,7 +149,7 @@ module _ (code : List ℕ) where
         stand = one .1 (more .bytes) (more .stand);
       }
 
-  pairs-there : (count : ℕ) (at : CodeOffset) → at .0 + 8 * count ≤ length code → Drawn LookupEntries (pairsFrom code (at .0) count) at
+  pairs-there : (count : ℕ) (at : CodeOffset) → at .0 + 8 * count ≤ length code → Drawn LookupEntries (pairsFrom code at count) at
   unfolding pairsFrom
   pairs-there zero at h = record { bytes = []; drawn = LookupEntries.none; stand = no-bytes at (omega arith) }
   pairs-there (suc count) at h =
@@ -164,12 +164,12 @@ module _ (code : List ℕ) where
       }
 
   -- and that entries which stand are the ones that are read
-  word-is : (at : CodeOffset) {word : ℕ} {bytes : List ℕ} (rest : List ℕ) → WordDrawn word bytes → Stand code at (bytes ++ rest) → (wordAt code (at .0) ≡ word) × Stand code (after 4 at) rest
+  word-is : (at : CodeOffset) {word : ℕ} {bytes : List ℕ} (rest : List ℕ) → WordDrawn word bytes → Stand code at (bytes ++ rest) → (wordAt code at ≡ word) × Stand code (after 4 at) rest
   word-is at {bytes = bytes} rest w s =
       let parts = part at bytes rest (w .four) s in
       (ap bigEndian (sym (ap (λ (k : ℕ). bytesAt k code (at .0)) (w .four)) ∙ parts .0 .there) ∙ sym (w .is), parts .1)
 
-  table-read : {key : ℤ} {es : List SwitchEntry} {bytes : List ℕ} (word : ℕ) (at : CodeOffset) → TableEntries key es bytes → Keyed word key → Stand code at bytes → tableFrom code word (at .0) (length es) ≡ es
+  table-read : {key : ℤ} {es : List SwitchEntry} {bytes : List ℕ} (word : ℕ) (at : CodeOffset) → TableEntries key es bytes → Keyed word key → Stand code at bytes → tableFrom code word at (length es) ≡ es
   unfolding tableFrom
   table-read word at TableEntries.none k s = refl
   table-read {key = key} word at (TableEntries.more {e = e} jump rest is drawn others bytes) k s =
@@ -179,7 +179,7 @@ module _ (code : List ℕ) where
       (ap₂ (λ (x y : ℕ). record { key = x; jump = y }) first (w .0))
       (table-read (word + 1) (after 4 at) others (next-keyed word key k) (w .1))
 
-  pairs-read : {es : List SwitchEntry} {bytes : List ℕ} (at : CodeOffset) → LookupEntries es bytes → Stand code at bytes → pairsFrom code (at .0) (length es) ≡ es
+  pairs-read : {es : List SwitchEntry} {bytes : List ℕ} (at : CodeOffset) → LookupEntries es bytes → Stand code at bytes → pairsFrom code at (length es) ≡ es
   unfolding pairsFrom
   pairs-read at LookupEntries.none s = refl
   pairs-read at (LookupEntries.more key jump rest first second others bytes) s =
@@ -243,7 +243,7 @@ module _ (code : List ℕ) where
   table-drawn at i next p {default} {low} {high} {lowAt} {highAt} {entries} count d l h fits ends counted some few is =
       let n : ℕ = length (p .bytes) in
       let w = table-there count low (signedOf low) entries fits (word-further low) in
-      let all : length (tableFrom code low (entries .0) count) ≡ count = length-table code low (entries .0) count in
+      let all : length (tableFrom code low entries count) ≡ count = length-table code low entries count in
       let bytes = p .bytes ++ (d .bytes ++ (l .bytes ++ (h .bytes ++ w .bytes))) in
       let there : entries ≡ after (n + 12) at = h .place ∙ ap (after 4) (l .place ∙ ap (after 4) (d .place ∙ ap (after 4) (p .place))) ∙ at-place (omega arith) in
       let picture : TablePicture at i bytes = record {
@@ -257,8 +257,8 @@ module _ (code : List ℕ) where
         default-word = d .four;
         low-word = l .four;
         high-word = h .four;
-        entries = tableFrom code low (entries .0) count;
-        entries-drawn = subst (λ (v : ℕ). TableEntries (signedOf v) (tableFrom code low (entries .0) count) (w .bytes)) (l .number) (w .drawn);
+        entries = tableFrom code low entries count;
+        entries-drawn = subst (λ (v : ℕ). TableEntries (signedOf v) (tableFrom code low entries count) (w .bytes)) (l .number) (w .drawn);
         counted = ap₂ (λ (x y : ℕ). signedOf x -ℤ signedOf y +ℤ pos 1) (sym (h .number)) (sym (l .number)) ∙ counted ∙ ap pos (sym all);
         some = rw all some;
         few = rw all few;
@@ -335,7 +335,7 @@ module _ (code : List ℕ) where
   lookup-drawn at i next p {default} {npairs} {npairsAt} {entries} count d c fits ends counted is =
       let n : ℕ = length (p .bytes) in
       let w = pairs-there count entries fits in
-      let all : length (pairsFrom code (entries .0) count) ≡ count = length-pairs code (entries .0) count in
+      let all : length (pairsFrom code entries count) ≡ count = length-pairs code entries count in
       let bytes = p .bytes ++ (d .bytes ++ (c .bytes ++ w .bytes)) in
       let there : entries ≡ after (n + 8) at = c .place ∙ ap (after 4) (d .place ∙ ap (after 4) (p .place)) ∙ at-place (omega arith) in
       let picture : LookupPicture at i bytes = record {
@@ -347,7 +347,7 @@ module _ (code : List ℕ) where
         pads = p .pads;
         default-word = d .four;
         npairs-word = c .four;
-        entries = pairsFrom code (entries .0) count;
+        entries = pairsFrom code entries count;
         entries-drawn = w .drawn;
         counted = ap signedOf (sym (c .number)) ∙ counted ∙ ap pos (sym all);
         is = is ∙ rw (all, d .number, there);

@@ -31,7 +31,7 @@ fn skip_words(code: &[u8], at: CodeOffset, count: u32) -> Read
     ensures { λ r. ⌜ r ≡ wordsFrom count (now (code .entry)) at ⌝ }
 {
     let i = at.0;
-    let room = read::left(code, i);
+    let room = read::left(code, at);
     let need = 4 * (count as usize);
     if room < need {
         return Read::Refused(PAST_END, CodeOffset(i + room / 4 * 4));

@@ -9,7 +9,7 @@ use Rattle.filling.proofs.put_pairs.Tie as tie
 
 abbrev Inv-loop : tie.InvT-loop
 Inv-loop code count entries₀ first number at₀ i₀ entries at i =
-    (at ≡ at₀ + 8 * i) × Filled entries₀ first (pairsFrom code at₀ count) number i (pairsFrom code at) entries
+    (at ≡ at₀ + 8 * i) × Filled entries₀ (first .0) (pairsFrom code (record { 0 = at₀ }) count) number i (pairsFrom code (record { 0 = at })) entries
 
 abbrev μ-loop : tie.MeasureT-loop
 μ-loop code count entries₀ first number at₀ i₀ entries at i = number - i
@@ -18,12 +18,12 @@ loop-holds : tie.Need-loop-holds Inv-loop μ-loop
 loop-holds c = (omega arith, filled-none _ _ _ _ (rw (c .wide .ensures)))
 
 put-entry-requires : tie.Need-put-entry-requires Inv-loop μ-loop
-put-entry-requires c κs = omega (arith, c .before .before .before .before .loop .inv .1 .kept)
+put-entry-requires c κs = omega (arith, c .before .before .before .before .before .loop .inv .1 .kept)
 
 loop-again : tie.Need-loop-again Inv-loop μ-loop
 unfolding pairsFrom
 loop-again c =
-    let n = c .before .before .before .before in
+    let n = c .before .before .before .before .before in
     let l = n .before .before in
     (omega arith, filled-next _ _ _ _ (l .before .loop .inv .1) _ _ (λ k. rw (n .before .number-4 .ensures .is, n .number-42 .ensures .is)) (l .loop-test .taken) (c .before .before .put-entry .ensures))
 

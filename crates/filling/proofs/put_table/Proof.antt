@@ -9,7 +9,7 @@ use Rattle.filling.proofs.put_table.Tie as tie
 
 abbrev Inv-loop : tie.InvT-loop
 Inv-loop code low count entries₀ first number key₀ at₀ i₀ entries key at i =
-    (key ≡ low + i) × (at ≡ at₀ + 4 * i) × Filled entries₀ first (tableFrom code low at₀ count) number i (tableFrom code key at) entries
+    (key ≡ low + i) × (at ≡ at₀ + 4 * i) × Filled entries₀ (first .0) (tableFrom code low (record { 0 = at₀ }) count) number i (tableFrom code key (record { 0 = at })) entries
 
 abbrev μ-loop : tie.MeasureT-loop
 μ-loop code low count entries₀ first number key₀ at₀ i₀ entries key at i = number - i
@@ -18,12 +18,12 @@ loop-holds : tie.Need-loop-holds Inv-loop μ-loop
 loop-holds c = (omega arith, omega arith, filled-none _ _ _ _ (rw (c .wide2 .ensures, c .before .wide .ensures)))
 
 put-entry-requires : tie.Need-put-entry-requires Inv-loop μ-loop
-put-entry-requires c κs = omega (arith, c .before .before .before .loop .inv .2 .kept)
+put-entry-requires c κs = omega (arith, c .before .before .before .before .loop .inv .2 .kept)
 
 loop-again : tie.Need-loop-again Inv-loop μ-loop
 unfolding tableFrom
 loop-again c =
-    let n = c .before .before .before .before in
+    let n = c .before .before .before .before .before in
     (omega arith, omega arith, filled-next _ _ _ _ (n .before .before .loop .inv .2) _ _ (λ k. rw (n .number-4 .ensures .is)) (n .before .loop-test .taken) (c .before .before .put-entry .ensures))
 
 returns : tie.Need-returns Inv-loop μ-loop
