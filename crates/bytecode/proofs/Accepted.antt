@@ -20,6 +20,7 @@ use Rattle.bytecode.specs.declared.Decoded.the-variants as decoded
 use Rattle.bytecode.specs.declared.Run.{Run}
 use Rattle.bytecode.specs.declared.Run.the-variants as run
 use Rattle.bytecode.specs.Decoding.{codeLimit, poolLimit, fitting, fitted, runFrom, recordsFrom, entriesFrom, jumpsOf, judged, decoding, storeAfter, recordsAfter, entriesAfter}
+use Rattle.bytecode.specs.Theorems.{StoresSay}
 use Rattle.bytecode.proofs.Laws.{by-fitting, not-filled}
 use Rattle.bytecode.proofs.Stored.{filled-jumps}
 
@@ -78,7 +79,7 @@ module _ (code pool records entries : List ℕ) (k m : ℕ) where
         go true c false p e = absurd (never e)
         go false c b p e = absurd (never e)
 
-    -- the stores are those of all instructions, and their words tell the jumps of these
+    -- the stores are those of all instructions
     pub accepted-records : recordsAfter code pool records entries ≡ recordsFrom 0 0 (linesOf code pool) records
     unfolding storeAfter
     accepted-records = rw (accepted, acceptance .all-fit)
@@ -87,8 +88,9 @@ module _ (code pool records entries : List ℕ) (k m : ℕ) where
     unfolding storeAfter
     accepted-entries = rw (accepted, acceptance .all-fit)
 
-    pub stores-say : jumpsIn (recordsAfter code pool records entries) k (entriesAfter code pool records entries) ≡ jumpsOf code (linesOf code pool)
-    stores-say =
-        ap₂ (λ (r e : List ℕ). jumpsIn r k e) accepted-records accepted-entries
-        ∙ subst (λ (ls : Lines). jumpsIn (recordsFrom 0 0 ls records) k (entriesFrom code 0 ls entries) ≡ jumpsOf code ls) (acceptance .all-fit)
-        (filled-jumps code pool records entries (ap (runFrom 0 0) (acceptance .all-fit) ∙ acceptance .filled))
+pub stores-say : StoresSay
+stores-say code pool records entries k m accepted =
+    let a = acceptance code pool records entries k m accepted in
+    ap₂ (λ (r e : List ℕ). jumpsIn r k e) (accepted-records code pool records entries k m accepted) (accepted-entries code pool records entries k m accepted)
+    ∙ subst (λ (ls : Lines). jumpsIn (recordsFrom 0 0 ls records) k (entriesFrom code 0 ls entries) ≡ jumpsOf code ls) (a .all-fit)
+    (filled-jumps code pool records entries (ap (runFrom 0 0) (a .all-fit) ∙ a .filled))
