@@ -23,7 +23,7 @@ use Rattle.bytecode.proofs.Laws.{fit-line, fit-14, fit-15}
 
 module _ (code pool records₀ entries₀ : List ℕ) where
   abbrev whole : Lines
-  whole = fitted code pool records₀ entries₀
+  whole = fitted code pool (recordRoom records₀) (entryRoom entries₀)
 
   -- what the answer and the stores are to be
   abbrev pub Fills : Run → List ℕ → List ℕ → Type 0

@@ -92,10 +92,10 @@ at-front words store n e h =
 
 pub accepted-stores : AcceptedStores
 accepted-stores code pool records entries k m e =
-    let a = acceptance code pool records entries k m e in
+    let a = acceptance code pool (recordRoom records) (entryRoom entries) k m e in
     let fit = ap (runFrom 0 0) (a .all-fit) ∙ a .filled in
     let some = fitting-short (linesOf code pool) (recordRoom records) (entryRoom entries) in
-    let number = run-count (fitted code pool records entries) 0 0 k m fit in
+    let number = run-count (fitted code pool (recordRoom records) (entryRoom entries)) 0 0 k m fit in
     let few = run-entries (linesOf code pool) (recordRoom records) (entryRoom entries) 0 0 k m fit in (
       accepted-records code pool records entries k m e
           ∙ records-in-row (linesOf code pool) 0 0 records

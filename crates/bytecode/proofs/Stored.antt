@@ -170,17 +170,20 @@ module _ (code pool : List ℕ) where
       (λ free-records free-entries n p at k m records entries k′ m′ f r e filled. absurd (not-filled filled))
 
 -- What a run that fills the stores leaves in them
-module _ (code pool records entries : List ℕ) {k m : ℕ} (filled : runFrom 0 0 (fitted code pool records entries) ≡ run.Filled k m) where
+module _ (code pool records entries : List ℕ) {k m : ℕ} (filled : runFrom 0 0 (fitted code pool (recordRoom records) (entryRoom entries)) ≡ run.Filled k m) where
+  abbrev fit : Lines
+  fit = fitted code pool (recordRoom records) (entryRoom entries)
+
   abbrev records-filled : List ℕ
-  records-filled = recordsFrom 0 0 (fitted code pool records entries) records
+  records-filled = recordsFrom 0 0 fit records
 
   abbrev entries-filled : List ℕ
-  entries-filled = entriesFrom code 0 (fitted code pool records entries) entries
+  entries-filled = entriesFrom code 0 fit entries
 
-  number : k ≡ length (listOf (fitted code pool records entries))
-  number = omega (arith, run-count (fitted code pool records entries) 0 0 k m filled)
+  number : k ≡ length (listOf fit)
+  number = omega (arith, run-count fit 0 0 k m filled)
 
-  holds : Holds code 0 0 (listOf (fitted code pool records entries)) records-filled entries-filled
+  holds : Holds code 0 0 (listOf fit) records-filled entries-filled
   holds =
       stored code pool (linesOf code pool) (recordRoom records) (entryRoom entries) (record { 0 = 0 }) 0 0 records entries k m
       (lines-exactly code pool (linesOf code pool) .0 refl) (omega arith) (omega arith) filled
@@ -188,7 +191,7 @@ module _ (code pool records entries : List ℕ) {k m : ℕ} (filled : runFrom 0 
   pub filled-sorted : Sorted records-filled k
   filled-sorted =
       let few = fitting-short (linesOf code pool) (recordRoom records) (entryRoom entries) in
-      let kept : length records-filled ≡ length records = length-records (fitted code pool records entries) 0 0 records in
+      let kept : length records-filled ≡ length records = length-records fit 0 0 records in
       record {
         there = omega (arith, few, number, kept);
         rising = λ i j a b. holds .rising i j (omega arith) a (omega (arith, number));
@@ -198,5 +201,5 @@ module _ (code pool records entries : List ℕ) {k m : ℕ} (filled : runFrom 0 
   filled-held i a = holds .held i (omega arith) (omega (arith, number))
 
   -- THE LINK: the jumps that the words of the stores say are those of the instructions
-  pub filled-jumps : jumpsIn records-filled k entries-filled ≡ jumpsOf code (fitted code pool records entries)
+  pub filled-jumps : jumpsIn records-filled k entries-filled ≡ jumpsOf code fit
   filled-jumps = ap (λ (n : ℕ). jumpsIn records-filled n entries-filled) number ∙ holds .jumps

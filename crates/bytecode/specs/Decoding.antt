@@ -42,9 +42,9 @@ fitting records entries (Lines.line l rest) =
 fitting records entries Lines.end = Lines.end
 fitting records entries (Lines.stop n p) = Lines.stop n p
 
--- The lines of a code as far as two stores have room for them
-abbrev pub fitted : List ℕ → List ℕ → List ℕ → List ℕ → Lines
-fitted code pool records entries = fitting (recordRoom records) (entryRoom entries) (linesOf code pool)
+-- The lines of a code as far as there is room for them
+abbrev pub fitted : List ℕ → List ℕ → ℕ → ℕ → Lines
+fitted code pool record-room entry-room = fitting record-room entry-room (linesOf code pool)
 
 -- What lines answer and store, where so many records and entries are stored before them
 unfoldable pub runFrom : ℕ → ℕ → Lines → Run
@@ -89,16 +89,20 @@ judged (run.Filled k m) checked.Good = decoded.Accepted k m
 judged (run.Filled k m) (checked.Bad n p second) = decoded.Refused n p second
 judged (run.Refused n p) c = decoded.Refused n p 0
 
--- The whole answer. 1: the code is over its limit. 2: the pool table is
-unfoldable pub decoding : List ℕ → List ℕ → List ℕ → List ℕ → Decoded
-decoding code pool records entries =
+abbrev pub answerOf : List ℕ → Lines → Decoded
+answerOf code ls = judged (runFrom 0 0 ls) (check (jumpsOf code ls))
+
+-- The limits go before any answer. 1: the code is over its limit. 2: the pool table is
+unfoldable pub limited : List ℕ → List ℕ → Decoded → Decoded
+limited code pool answer =
     elim (leb (length code) codeLimit) [
-      | true ↦ elim (leb (length pool) poolLimit) [
-        | true ↦ judged (runFrom 0 0 (fitted code pool records entries)) (check (jumpsOf code (fitted code pool records entries)))
-        | false ↦ decoded.Refused 2 (record { 0 = 0 }) 0
-      ]
+      | true ↦ elim (leb (length pool) poolLimit) [ true ↦ answer | false ↦ decoded.Refused 2 (record { 0 = 0 }) 0 ]
       | false ↦ decoded.Refused 1 (record { 0 = 0 }) 0
     ]
+
+-- The whole answer, where there is room for so many records and so many entries
+unfoldable pub decoding : List ℕ → List ℕ → ℕ → ℕ → Decoded
+decoding code pool record-room entry-room = limited code pool (answerOf code (fitted code pool record-room entry-room))
 
 -- The stores afterwards: what is written where the answer is acceptance, and zero in every word where it is a refusal
 unfoldable pub storeAfter : Decoded → List ℕ → List ℕ → List ℕ
@@ -107,8 +111,8 @@ storeAfter (decoded.Refused n p second) before written = replicate (length befor
 
 abbrev pub recordsAfter : List ℕ → List ℕ → List ℕ → List ℕ → List ℕ
 recordsAfter code pool records entries =
-    storeAfter (decoding code pool records entries) records (recordsFrom 0 0 (fitted code pool records entries) records)
+    storeAfter (decoding code pool (recordRoom records) (entryRoom entries)) records (recordsFrom 0 0 (fitted code pool (recordRoom records) (entryRoom entries)) records)
 
 abbrev pub entriesAfter : List ℕ → List ℕ → List ℕ → List ℕ → List ℕ
 entriesAfter code pool records entries =
-    storeAfter (decoding code pool records entries) entries (entriesFrom code 0 (fitted code pool records entries) entries)
+    storeAfter (decoding code pool (recordRoom records) (entryRoom entries)) entries (entriesFrom code 0 (fitted code pool (recordRoom records) (entryRoom entries)) entries)

@@ -4,6 +4,7 @@ use Prim.Native.Nat.{ℕ}
 use mathlib.Core.List.{List, [], _∷_, _++_}
 use lib.ListN.{replicate}
 use Rattle.laws.specs.Examples.{Computes}
+use Rattle.records.specs.Records.{recordRoom, entryRoom}
 use Rattle.bytecode.specs.declared.Decoded.{Decoded}
 use Rattle.bytecode.specs.declared.Decoded.the-variants as decoded
 use Rattle.bytecode.specs.Decoding.{decoding, recordsAfter, entriesAfter}
@@ -22,7 +23,7 @@ abbrev decoded-in : (List ℕ × ℕ × ℕ) → Whole
 decoded-in q =
     let records : List ℕ = replicate (q .1) 9 in
     let entries : List ℕ = replicate (q .2) 9 in
-    (decoding (q .0) [] records entries, recordsAfter (q .0) [] records entries, entriesAfter (q .0) [] records entries)
+    (decoding (q .0) [] (recordRoom records) (entryRoom entries), recordsAfter (q .0) [] records entries, entriesAfter (q .0) [] records entries)
 
 abbrev zeros : ℕ → List ℕ
 zeros n = replicate n 0
@@ -94,7 +95,7 @@ CodesCompute =
 -- the limits of the code and of the pool table: proved as `limits-compute`
 abbrev pub LimitsCompute : Type 0
 LimitsCompute =
-    Computes (λ (q : List ℕ × List ℕ). decoding (q .0) (q .1) (9 ∷ []) []) (
+    Computes (λ (q : List ℕ × List ℕ). decoding (q .0) (q .1) 0 0) (
     ((replicate 65536 0, []), refused 1 0 0)
     ∷ ((replicate 65536 0, replicate 4097 0), refused 1 0 0)
     ∷ (([], replicate 4097 0), refused 2 0 0)

@@ -7,7 +7,7 @@ use lib.ListN.{drop}
 use lib.Seq.{sets}
 use Rattle.instruction.specs.Theorems.{entriesOf}
 use Rattle.lines.specs.Lines.{Line, Lines, linesOf, listOf}
-use Rattle.records.specs.Records.{recordWords, entryWords, wordsOf, allEntryWords}
+use Rattle.records.specs.Records.{recordWords, entryWords, recordRoom, entryRoom, wordsOf, allEntryWords}
 use Rattle.filling.specs.Filling.{entriesIn, recordOf}
 use Rattle.jumps.specs.Stored.{jumpsIn}
 use Rattle.bytecode.specs.declared.Decoded.the-variants as decoded
@@ -36,12 +36,12 @@ EntriesInRow =
 -- `accepted-stores`
 abbrev pub AcceptedStores : Type 0
 AcceptedStores =
-    (code pool records entries : List ℕ) (k m : ℕ) → decoding code pool records entries ≡ decoded.Accepted k m
+    (code pool records entries : List ℕ) (k m : ℕ) → decoding code pool (recordRoom records) (entryRoom entries) ≡ decoded.Accepted k m
     → (recordsAfter code pool records entries ≡ recordRow 0 (listOf (linesOf code pool)) ++ drop (k * recordWords) records)
     × (entriesAfter code pool records entries ≡ entryRow code (listOf (linesOf code pool)) ++ drop (m * entryWords) entries)
 
 -- and those words tell the jumps of its instructions: proved as `stores-say`
 abbrev pub StoresSay : Type 0
 StoresSay =
-    (code pool records entries : List ℕ) (k m : ℕ) → decoding code pool records entries ≡ decoded.Accepted k m
+    (code pool records entries : List ℕ) (k m : ℕ) → decoding code pool (recordRoom records) (entryRoom entries) ≡ decoded.Accepted k m
     → jumpsIn (recordsAfter code pool records entries) k (entriesAfter code pool records entries) ≡ jumpsOf code (linesOf code pool)

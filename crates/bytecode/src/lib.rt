@@ -67,9 +67,9 @@ fn put_line(
 // All instructions into the stores, as far as these have room. A refusal leaves those before it there.
 fn fill(code: &[u8], pool: &[u8], records: &mut [u32], entries: &mut [u32]) -> Run
     requires { ⌜ length (now code) ≤ codeLimit ⌝ }
-    ensures answers { λ r. ⌜ r ≡ runFrom 0 0 (fitted (now (code .entry)) (now (pool .entry)) (now (records .entry)) (now (entries .entry))) ⌝ }
-    ensures fills_records { λ r. ⌜ now (records .exit) ≡ recordsFrom 0 0 (fitted (now (code .entry)) (now (pool .entry)) (now (records .entry)) (now (entries .entry))) (now (records .entry)) ⌝ }
-    ensures fills_entries { λ r. ⌜ now (entries .exit) ≡ entriesFrom (now (code .entry)) 0 (fitted (now (code .entry)) (now (pool .entry)) (now (records .entry)) (now (entries .entry))) (now (entries .entry)) ⌝ }
+    ensures answers { λ r. ⌜ r ≡ runFrom 0 0 (fitted (now (code .entry)) (now (pool .entry)) (recordRoom (now (records .entry))) (entryRoom (now (entries .entry)))) ⌝ }
+    ensures fills_records { λ r. ⌜ now (records .exit) ≡ recordsFrom 0 0 (fitted (now (code .entry)) (now (pool .entry)) (recordRoom (now (records .entry))) (entryRoom (now (entries .entry)))) (now (records .entry)) ⌝ }
+    ensures fills_entries { λ r. ⌜ now (entries .exit) ≡ entriesFrom (now (code .entry)) 0 (fitted (now (code .entry)) (now (pool .entry)) (recordRoom (now (records .entry))) (entryRoom (now (entries .entry)))) (now (entries .entry)) ⌝ }
 {
     let formats = opcodes::formats();
     let record_room = records.len() / RECORD_WORDS;
@@ -102,7 +102,7 @@ fn fill(code: &[u8], pool: &[u8], records: &mut [u32], entries: &mut [u32]) -> R
 
 // The answer. A refusal leaves in the stores what was written before it.
 fn decide(code: &[u8], pool: &[u8], records: &mut [u32], entries: &mut [u32]) -> Decoded
-    ensures answers { λ r. ⌜ r ≡ decoding (now (code .entry)) (now (pool .entry)) (now (records .entry)) (now (entries .entry)) ⌝ }
+    ensures answers { λ r. ⌜ r ≡ decoding (now (code .entry)) (now (pool .entry)) (recordRoom (now (records .entry))) (entryRoom (now (entries .entry))) ⌝ }
     ensures fills_records { λ r. ⌜ storeAfter r (now (records .entry)) (now (records .exit)) ≡ recordsAfter (now (code .entry)) (now (pool .entry)) (now (records .entry)) (now (entries .entry)) ⌝ }
     ensures fills_entries { λ r. ⌜ storeAfter r (now (entries .entry)) (now (entries .exit)) ≡ entriesAfter (now (code .entry)) (now (pool .entry)) (now (records .entry)) (now (entries .entry)) ⌝ }
 {
@@ -140,7 +140,7 @@ fn settled(records: &mut [u32], entries: &mut [u32], answer: Decoded) -> Decoded
 // The entry. Accepted: every instruction has its record in order, every switch its entries, and the words past them are as
 // they were. Refused: every word of both stores is zero.
 pub fn decode(code: &[u8], pool: &[u8], records: &mut [u32], entries: &mut [u32]) -> Decoded
-    ensures answers { λ r. ⌜ r ≡ decoding (now (code .entry)) (now (pool .entry)) (now (records .entry)) (now (entries .entry)) ⌝ }
+    ensures answers { λ r. ⌜ r ≡ decoding (now (code .entry)) (now (pool .entry)) (recordRoom (now (records .entry))) (entryRoom (now (entries .entry))) ⌝ }
     ensures stores_records { λ r. ⌜ now (records .exit) ≡ recordsAfter (now (code .entry)) (now (pool .entry)) (now (records .entry)) (now (entries .entry)) ⌝ }
     ensures stores_entries { λ r. ⌜ now (entries .exit) ≡ entriesAfter (now (code .entry)) (now (pool .entry)) (now (records .entry)) (now (entries .entry)) ⌝ }
 {

@@ -106,8 +106,8 @@ module _ (code pool : List ℕ) where
         (map (λ (e : SwitchEntry). e .jump) (entriesIn code table), ap (jumpWords code) is, ap pos all ∙ number)
 
 pub accepted-meets : AcceptedMeetsDemand3
-accepted-meets code pool records entries k m e =
-    let a = acceptance code pool records entries k m e in
+accepted-meets code pool record-room entry-room k m e =
+    let a = acceptance code pool record-room entry-room k m e in
     let covers = tiles code pool (linesOf code pool) (record { 0 = 0 }) 0 0 k m (follow code pool) (a .filled) in
     record {
       covers = covers;
