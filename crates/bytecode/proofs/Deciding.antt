@@ -48,7 +48,7 @@ module _ (code pool records₀ entries₀ : List ℕ) where
     pool-too-long h k = decides-refused records entries (over-pool code pool (answerOf code fit) h k)
 
   module _ (h : length code ≤ codeLimit) (k : length pool ≤ poolLimit) where
-    pub within : answered ≡ answerOf code fit
+    within : answered ≡ answerOf code fit
     unfolding decoding
     within = both-within code pool (answerOf code fit) h k
 

@@ -14,7 +14,8 @@ use Rattle.filling.specs.Filling.{entriesIn, recordOf}
 use Rattle.filling.proofs.Entries.{all-entries}
 use Rattle.bytecode.specs.declared.Run.the-variants as run
 use Rattle.bytecode.specs.Decoding.{fitting, fitted, runFrom, withRecord, withEntries, recordsFrom, entriesFrom}
-use Rattle.bytecode.specs.Theorems.{recordRow, entryRow, RecordsInRow, EntriesInRow, AcceptedStores}
+use Rattle.bytecode.specs.Rows.{recordRow, entryRow}
+use Rattle.bytecode.specs.Theorems.{RecordsInRow, EntriesInRow, AcceptedStores}
 use Rattle.bytecode.proofs.Laws.{by-fitting, not-filled, fitting-short, run-count}
 use Rattle.bytecode.proofs.Accepted.{acceptance, accepted-records, accepted-entries}
 

@@ -19,8 +19,7 @@ use Rattle.switches.specs.Switches.{entryCount}
 use Rattle.instruction.specs.Steps.{stepOf}
 use Rattle.instruction.specs.Theorems.{entriesOf}
 use Rattle.instruction.proofs.Exactly.{step-within}
-use Rattle.lines.specs.Lines.{Line, Lines, linesOf, listOf}
-use Rattle.lines.specs.Theorems.{Follow}
+use Rattle.lines.specs.Lines.{Line, Lines, linesOf, listOf, Consecutive}
 use Rattle.lines.proofs.Exactly.{lines-exactly}
 use Rattle.records.specs.declared.Record.{Record}
 use Rattle.records.specs.declared.SwitchEntry.{SwitchEntry}
@@ -145,7 +144,7 @@ module _ (code pool : List ℕ) where
   abbrev AllStored : ℕ → ℕ → Lines → Lines → Type 0
   AllStored free-records free-entries ls fit =
       (at : CodeOffset) (k m : ℕ) (records entries : List ℕ) (k′ m′ : ℕ)
-      → Follow code pool at ls → k + free-records ≡ recordRoom records → m + free-entries ≡ entryRoom entries
+      → Consecutive code pool at ls → k + free-records ≡ recordRoom records → m + free-entries ≡ entryRoom entries
       → runFrom k m fit ≡ run.Filled k′ m′ → Stores k m at records entries fit
 
   stored-one :

@@ -1,26 +1,16 @@
 -- What the stores hold where a code is accepted, without steps. The proofs are in proofs/Rows.antt and
 -- proofs/Accepted.antt.
-use Prim.Native.Nat.{ℕ, _+_, _*_}
-use mathlib.Core.List.{List, [], _∷_, _++_}
+use Prim.Native.Nat.{ℕ, _*_}
+use mathlib.Core.List.{List, _++_}
 use mathlib.Core.Path.{_≡_}
 use lib.ListN.{drop}
 use lib.Seq.{sets}
-use Rattle.instruction.specs.Theorems.{entriesOf}
-use Rattle.lines.specs.Lines.{Line, Lines, linesOf, listOf}
-use Rattle.records.specs.Records.{recordWords, entryWords, recordRoom, entryRoom, wordsOf, allEntryWords}
-use Rattle.filling.specs.Filling.{entriesIn, recordOf}
+use Rattle.lines.specs.Lines.{Lines, linesOf, listOf}
+use Rattle.records.specs.Records.{recordWords, entryWords, recordRoom, entryRoom}
 use Rattle.jumps.specs.Stored.{jumpsIn}
 use Rattle.bytecode.specs.declared.Decoded.the-variants as decoded
 use Rattle.bytecode.specs.Decoding.{recordsFrom, entriesFrom, jumpsOf, decoding, recordsAfter, entriesAfter}
-
--- The words of lines in a row, record after record, so many entries being stored before theirs
-unfoldable pub recordRow : ℕ → List Line → List ℕ
-recordRow first [] = []
-recordRow first (l ∷ lines) = wordsOf (recordOf (l .at .0) first (l .instruction)) ++ recordRow (first + entriesOf (l .instruction)) lines
-
-unfoldable pub entryRow : List ℕ → List Line → List ℕ
-entryRow code [] = []
-entryRow code (l ∷ lines) = allEntryWords (entriesIn code (l .instruction)) ++ entryRow code lines
+use Rattle.bytecode.specs.Rows.{recordRow, entryRow}
 
 -- Lines are stored in a row from any marks on, and nothing else of a store changes: proved as `records-in-row` and
 -- `entries-in-row`

@@ -8,13 +8,12 @@ use lib.ListN.{length}
 use Rattle.read.specs.declared.CodeOffset.{CodeOffset}
 use Rattle.instruction.specs.Theorems.{entriesOf}
 use Rattle.instruction.proofs.Refusals.{step-refuses}
-use Rattle.lines.specs.Lines.{Lines, linesOf, listOf}
-use Rattle.lines.specs.Theorems.{Follow}
+use Rattle.lines.specs.Lines.{Lines, linesOf, listOf, Consecutive}
 use Rattle.lines.proofs.Exactly.{lines-exactly}
 use Rattle.jumps.specs.declared.Checked.{Checked}
 use Rattle.jumps.specs.declared.Checked.the-variants as checked
 use Rattle.jumps.specs.Jumps.{Jumps, startsOf, check}
-use Rattle.jumps.specs.Theorems.{AllLand, FirstFailing}
+use Rattle.jumps.specs.Landing.{AllLand, FirstFailing}
 use Rattle.jumps.proofs.Exactly.{good-exactly, bad-exactly}
 use Rattle.bytecode.specs.declared.Run.{Run}
 use Rattle.bytecode.specs.declared.Run.the-variants as run
@@ -116,10 +115,10 @@ not-of-room : {n : ℕ} → OfJump n → (n ≡ 14 → ⊥) × (n ≡ 15 → ⊥
 not-of-room j = (λ e. ⊎-elim (λ q. omega arith) (λ q. omega arith) j, λ e. ⊎-elim (λ q. omega arith) (λ q. omega arith) j)
 
 module _ (code pool : List ℕ) where
-  not-of-run : (ls : Lines) (records entries : ℕ) (at : CodeOffset) (k m n : ℕ) (p : CodeOffset) → Follow code pool at ls → runFrom k m (fitting records entries ls) ≡ run.Refused n p → OfJump n → ⊥
+  not-of-run : (ls : Lines) (records entries : ℕ) (at : CodeOffset) (k m n : ℕ) (p : CodeOffset) → Consecutive code pool at ls → runFrom k m (fitting records entries ls) ≡ run.Refused n p → OfJump n → ⊥
   unfolding runFrom
   not-of-run =
-      by-fitting (λ records entries ls fit. (at : CodeOffset) (k m n : ℕ) (p : CodeOffset) → Follow code pool at ls → runFrom k m fit ≡ run.Refused n p → OfJump n → ⊥)
+      by-fitting (λ records entries ls fit. (at : CodeOffset) (k m n : ℕ) (p : CodeOffset) → Consecutive code pool at ls → runFrom k m fit ≡ run.Refused n p → OfJump n → ⊥)
       (λ l rest fit records entries room h at k m n p f e j. h (l .next) (k + 1) (m + entriesOf (l .instruction)) n p (f .3) e j)
       (λ l rest records entries at k m n p f e j. not-of-room j .0 cc)
       (λ l rest entries at k m n p f e j. not-of-room j .1 cc)

@@ -14,7 +14,7 @@ use Rattle.bytecode.specs.declared.Run.{Run}
 use Rattle.bytecode.specs.declared.Run.the-variants as run
 use Rattle.bytecode.specs.declared.Decoded.{Decoded}
 use Rattle.bytecode.specs.Decoding.{fitting, fitted, runFrom, judged, answerOf, limited, decoding}
-use Rattle.bytecode.specs.Theorems.{recordRow, entryRow}
+use Rattle.bytecode.specs.Rows.{recordRow, entryRow}
 use Rattle.bytecode.proofs.Laws.{by-fitting, fitting-short}
 use Rattle.bytecode.proofs.Limits.{over-code, over-pool, both-within, Limits, by-limits}
 use Rattle.bytecode.proofs.Accepted.{filled-fits, acceptance}

@@ -9,7 +9,7 @@ use Rattle.read.specs.declared.CodeOffset.{CodeOffset}
 use Rattle.instruction.specs.Theorems.{entriesOf}
 use Rattle.lines.specs.Lines.{Line, Lines, linesOf, listOf}
 use Rattle.jumps.specs.Jumps.{startsOf}
-use Rattle.jumps.specs.Theorems.{AllLand, FirstFailing}
+use Rattle.jumps.specs.Landing.{AllLand, FirstFailing}
 use Rattle.bytecode.specs.declared.Decoded.the-variants as decoded
 use Rattle.bytecode.specs.Decoding.{codeLimit, poolLimit, jumpWords, jumpsOf, decoding}
 

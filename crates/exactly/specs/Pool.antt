@@ -7,7 +7,7 @@ use Rattle.laws.specs.Bytes.{In}
 use Rattle.read.specs.declared.CodeOffset.{CodeOffset}
 use Rattle.pool.specs.Entries.{entryAt}
 use Rattle.instruction.specs.Names.{namesAt}
-use Rattle.lines.specs.Theorems.{Reached}
+use Rattle.lines.specs.Lines.{Reached}
 use Rattle.bytecode.specs.Decoding.{poolLimit, decoding, recordsAfter, entriesAfter}
 
 -- Two tables within the limit that agree on the entries that the code's instructions name
