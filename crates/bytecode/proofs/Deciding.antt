@@ -1,7 +1,8 @@
 -- From the run and the check of the jumps to the answer and what is left in the stores.
-use Prim.Native.Nat.{ℕ, _≤_, _<_}
+use Prim.Native.Nat.{ℕ, _-_, _≤_, _<_}
 use mathlib.Core.List.{List}
 use mathlib.Core.Path.{_≡_, refl, sym, ap, ap₂, _∙_}
+use native.Mathlib.Nat.{sub-zero}
 use lib.ListN.{length, replicate}
 use Rattle.read.specs.declared.CodeOffset.{CodeOffset}
 use Rattle.lines.specs.Lines.{Lines}
@@ -16,6 +17,7 @@ use Rattle.bytecode.specs.declared.Decoded.the-variants as decoded
 use Rattle.bytecode.specs.declared.Run.{Run}
 use Rattle.bytecode.specs.declared.Run.the-variants as run
 use Rattle.bytecode.specs.Decoding.{codeLimit, poolLimit, fitted, runFrom, jumpsOf, judged, answerOf, decoding, storeAfter, recordsAfter, entriesAfter}
+use Rattle.bytecode.specs.Theorems.{RefusedStores}
 use Rattle.bytecode.proofs.Limits.{over-code, over-pool, both-within}
 use Rattle.bytecode.proofs.Filling.{Fills}
 use Rattle.bytecode.proofs.Stored.{filled-sorted, filled-held, filled-jumps}
@@ -31,8 +33,8 @@ module _ (code pool records₀ entries₀ : List ℕ) where
   abbrev pub Decides : Decoded → List ℕ → List ℕ → Type 0
   Decides answer records entries =
       (answer ≡ answered)
-      × ((storeAfter answer records₀ records ≡ recordsAfter code pool records₀ entries₀)
-      × (storeAfter answer entries₀ entries ≡ entriesAfter code pool records₀ entries₀))
+      × ((storeAfter 0 answer records₀ records ≡ recordsAfter code pool records₀ entries₀)
+      × (storeAfter 0 answer entries₀ entries ≡ entriesAfter code pool records₀ entries₀))
 
   decides-refused : {n : ℕ} {p : CodeOffset} {second : ℕ} (records entries : List ℕ) → answered ≡ decoded.Refused n p second → Decides (decoded.Refused n p second) records entries
   unfolding storeAfter
@@ -83,16 +85,23 @@ module _ (code pool records₀ entries₀ : List ℕ) where
               (sym accepted, (rw accepted (fills .1 .0), rw accepted (fills .1 .1)))
 
 -- a store beside an answer
-pub settled-accepted : {answer : Decoded} (store : List ℕ) {count stored : ℕ} → answer ≡ decoded.Accepted count stored → store ≡ storeAfter answer store store
+pub settled-accepted : {answer : Decoded} (store : List ℕ) {count stored : ℕ} → answer ≡ decoded.Accepted count stored → store ≡ storeAfter 0 answer store store
 unfolding storeAfter
 settled-accepted store e = rw e
 
-pub settled-refused : {answer : Decoded} (store cleared : List ℕ) {n : ℕ} {p : CodeOffset} {second : ℕ} → answer ≡ decoded.Refused n p second → cleared ≡ replicate (length store) 0 → cleared ≡ storeAfter answer store store
+-- from the mark 0 on, that is all of it
+cleared-all : (n : ℕ) (p : CodeOffset) (second : ℕ) (before written : List ℕ) → storeAfter 0 (decoded.Refused n p second) before written ≡ replicate (length before) 0
 unfolding storeAfter
-settled-refused store cleared e c = rw e c
+cleared-all n p second before written = ap (λ (n : ℕ). replicate n 0) (sub-zero (length before))
+
+pub settled-refused : {answer : Decoded} (store cleared : List ℕ) {n : ℕ} {p : CodeOffset} {second : ℕ} → answer ≡ decoded.Refused n p second → cleared ≡ replicate (length store) 0 → cleared ≡ storeAfter 0 answer store store
+settled-refused store cleared e c = rw e (c ∙ sym (cleared-all _ _ _ store store))
 
 -- clearing settles what was left open
-pub settles : (answer : Decoded) (before store after : List ℕ) {is : List ℕ} → length store ≡ length before → after ≡ storeAfter answer store store → storeAfter answer before store ≡ is → after ≡ is
+pub settles : (answer : Decoded) (before store after : List ℕ) {is : List ℕ} → length store ≡ length before → after ≡ storeAfter 0 answer store store → storeAfter 0 answer before store ≡ is → after ≡ is
 unfolding storeAfter
 settles (decoded.Accepted count stored) before store after kept a e = a ∙ e
-settles (decoded.Refused n p second) before store after kept a e = a ∙ ap (λ (n : ℕ). replicate n 0) kept ∙ e
+settles (decoded.Refused n p second) before store after kept a e = a ∙ ap (λ (n : ℕ). replicate (n - 0) 0) kept ∙ e
+
+pub refused-stores : RefusedStores
+refused-stores code pool records entries n place second e = (rw e (cleared-all n place second records _), rw e (cleared-all n place second entries _))

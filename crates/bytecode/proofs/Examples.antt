@@ -14,7 +14,7 @@ use Rattle.filling.specs.Filling.{tableFrom, pairsFrom}
 use Rattle.jumps.specs.Jumps.{jumpCheck, wordsCheck, allCheck}
 use Rattle.jumps.specs.Stored.{hasJump}
 use Rattle.bytecode.specs.Decoding.{fitting, runFrom, recordsFrom, entriesFrom, jumpWords, limited, decoding, storeAfter}
-use Rattle.bytecode.specs.Examples.{CodesCompute, LimitsCompute}
+use Rattle.bytecode.specs.Examples.{CodesCompute, LimitsCompute, MarksCompute}
 
 pub codes-compute : CodesCompute
 unfolding bigEndian readOf formats formatOf kindOf wideFormOf signedIn extended signedRead unlessFault operandsFrom wordsFrom countOf lookupEntries stepOf linesFrom listOf allEntryWords tableFrom pairsFrom jumpCheck wordsCheck allCheck hasJump fitting runFrom recordsFrom entriesFrom jumpWords limited decoding storeAfter
@@ -23,3 +23,7 @@ codes-compute = refl
 pub limits-compute : LimitsCompute
 unfolding bigEndian readOf formats formatOf stepOf linesFrom listOf allCheck fitting runFrom recordsFrom limited decoding storeAfter
 limits-compute = refl
+
+pub marks-compute : MarksCompute
+unfolding storeAfter
+marks-compute = refl

@@ -27,17 +27,18 @@ use Rattle.records.specs.Records.{recordWords, entryWords, recordRoom, entryRoo
 use Rattle.records.proofs.Reading.{record-there, entries-there}
 use Rattle.lookup.specs.Lookup.{offsetOf, Sorted}
 use Rattle.jumps.specs.Jumps.{Jumps}
-use Rattle.jumps.specs.Stored.{hasJump, storedEntries, entryJump, storedWords, storedJumps, jumpsIn, Held, AllHeld}
+use Rattle.jumps.specs.Stored.{hasJump, storedEntries, entryJump, storedWords, storedJumps, jumpsFrom, jumpsIn, Held, AllHeld}
 use Rattle.filling.specs.Filling.{entriesIn, recordOf}
 use Rattle.filling.proofs.Entries.{all-entries}
 use Rattle.filling.proofs.Decoded.{table-counted, ordinary-kind}
 use Rattle.bytecode.specs.declared.Run.the-variants as run
 use Rattle.bytecode.specs.Decoding.{fitting, fitted, runFrom, withRecord, withEntries, recordsFrom, entriesFrom, jumpWords, lineJumps, jumpsOf}
+use Rattle.bytecode.specs.Theorems.{StoredSay}
 use Rattle.bytecode.proofs.Laws.{by-fitting, not-filled, fitting-short, run-count, records-before, entries-before, length-records, length-entries}
 
 -- The records from index k on are those of the lines, which start at an offset or later.
 pub record Holds (code : List ℕ) (k at : ℕ) (lines : List Line) (records entries : List ℕ) : Type 0 where
-  pub jumps : listed (λ (i : ℕ). storedJumps entries (recordAt records (index i))) k (length lines) ≡ map (lineJumps code) lines
+  pub jumps : jumpsFrom records k (length lines) entries ≡ map (lineJumps code) lines
   pub held : (i : ℕ) → k ≤ i → i < k + length lines → Held entries (recordAt records (index i))
   pub above : (i : ℕ) → k ≤ i → i < k + length lines → at ≤ offsetOf records i
   pub rising : (i j : ℕ) → k ≤ i → i < j → j < k + length lines → offsetOf records i < offsetOf records j
@@ -168,7 +169,25 @@ module _ (code pool : List ℕ) where
       record { jumps = refl; held = λ i a b. absurd (omega arith); above = λ i a b. absurd (omega arith); rising = λ i j a lt b. absurd (omega arith) })
       (λ free-records free-entries n p at k m records entries k′ m′ f r e filled. absurd (not-filled filled))
 
--- What a run that fills the stores leaves in them
+-- What a run that fills the stores from any marks on leaves in them
+module _
+    (code pool records entries : List ℕ) (k m record-room entry-room : ℕ) {k′ m′ : ℕ}
+    (room : k + record-room ≡ recordRoom records) (entries-room : m + entry-room ≡ entryRoom entries)
+    (filled : runFrom k m (fitted code pool record-room entry-room) ≡ run.Filled k′ m′)
+  where
+    pub holds : Stores code pool k m (record { 0 = 0 }) records entries (fitted code pool record-room entry-room)
+    holds =
+        stored code pool (linesOf code pool) record-room entry-room (record { 0 = 0 }) k m records entries k′ m′
+        (lines-exactly code pool (linesOf code pool) .0 refl) room entries-room filled
+
+pub stored-say : StoredSay
+stored-say code pool records entries k m record-room entry-room count stored room entries-room filled =
+    let fit = fitted code pool record-room entry-room in
+    let number : count ≡ length (listOf fit) = omega (arith, run-count fit k m (k + count) (m + stored) filled) in
+    ap (λ (n : ℕ). jumpsFrom (recordsFrom k m fit records) k n (entriesFrom code m fit entries)) number
+    ∙ holds code pool records entries k m record-room entry-room room entries-room filled .jumps
+
+-- and from the start
 module _ (code pool records entries : List ℕ) {k m : ℕ} (filled : runFrom 0 0 (fitted code pool (recordRoom records) (entryRoom entries)) ≡ run.Filled k m) where
   abbrev fit : Lines
   fit = fitted code pool (recordRoom records) (entryRoom entries)
@@ -182,10 +201,8 @@ module _ (code pool records entries : List ℕ) {k m : ℕ} (filled : runFrom 0 
   number : k ≡ length (listOf fit)
   number = omega (arith, run-count fit 0 0 k m filled)
 
-  holds : Holds code 0 0 (listOf fit) records-filled entries-filled
-  holds =
-      stored code pool (linesOf code pool) (recordRoom records) (entryRoom entries) (record { 0 = 0 }) 0 0 records entries k m
-      (lines-exactly code pool (linesOf code pool) .0 refl) (omega arith) (omega arith) filled
+  all-held : Holds code 0 0 (listOf fit) records-filled entries-filled
+  all-held = holds code pool records entries 0 0 (recordRoom records) (entryRoom entries) (omega arith) (omega arith) filled
 
   pub filled-sorted : Sorted records-filled k
   filled-sorted =
@@ -193,12 +210,12 @@ module _ (code pool records entries : List ℕ) {k m : ℕ} (filled : runFrom 0 
       let kept : length records-filled ≡ length records = length-records fit 0 0 records in
       record {
         there = omega (arith, few, number, kept);
-        rising = λ i j a b. holds .rising i j (omega arith) a (omega (arith, number));
+        rising = λ i j a b. all-held .rising i j (omega arith) a (omega (arith, number));
       }
 
   pub filled-held : AllHeld records-filled k entries-filled
-  filled-held i a = holds .held i (omega arith) (omega (arith, number))
+  filled-held i a = all-held .held i (omega arith) (omega (arith, number))
 
   -- THE LINK: the jumps that the words of the stores say are those of the instructions
   pub filled-jumps : jumpsIn records-filled k entries-filled ≡ jumpsOf code fit
-  filled-jumps = ap (λ (n : ℕ). jumpsIn records-filled n entries-filled) number ∙ holds .jumps
+  filled-jumps = ap (λ (n : ℕ). jumpsIn records-filled n entries-filled) number ∙ all-held .jumps

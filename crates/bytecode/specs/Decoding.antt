@@ -2,9 +2,9 @@
 -- those of `linesOf`, which knows no store; here they meet the stores, the limits and the check of the jumps.
 use Prim.Native.Nat.{ℕ, zero, suc, _+_, _-_, _*_}
 use mathlib.Core.Bool.{true, false}
-use mathlib.Core.List.{List, [], _∷_, map}
+use mathlib.Core.List.{List, [], _∷_, _++_, map}
 use lib.Dec.{leb}
-use lib.ListN.{length, replicate}
+use lib.ListN.{length, take, replicate}
 use lib.Seq.{sets}
 use Rattle.ordinary.specs.declared.Instruction.{Instruction}
 use Rattle.ordinary.specs.declared.Instruction.the-variants as instruction
@@ -104,15 +104,17 @@ limited code pool answer =
 unfoldable pub decoding : List ℕ → List ℕ → ℕ → ℕ → Decoded
 decoding code pool record-room entry-room = limited code pool (answerOf code (fitted code pool record-room entry-room))
 
--- The stores afterwards: what is written where the answer is acceptance, and zero in every word where it is a refusal
-unfoldable pub storeAfter : Decoded → List ℕ → List ℕ → List ℕ
-storeAfter (decoded.Accepted k m) before written = written
-storeAfter (decoded.Refused n p second) before written = replicate (length before) 0
+-- A store afterwards: what is written where the answer is acceptance. A refusal leaves the words before a mark as they
+-- were, and every word from it on is zero
+unfoldable pub storeAfter : ℕ → Decoded → List ℕ → List ℕ → List ℕ
+storeAfter mark (decoded.Accepted k m) before written = written
+storeAfter mark (decoded.Refused n p second) before written = take mark before ++ replicate (length before - mark) 0
 
+-- Decoding starts with empty stores: the mark is 0 in both
 abbrev pub recordsAfter : List ℕ → List ℕ → List ℕ → List ℕ → List ℕ
 recordsAfter code pool records entries =
-    storeAfter (decoding code pool (recordRoom records) (entryRoom entries)) records (recordsFrom 0 0 (fitted code pool (recordRoom records) (entryRoom entries)) records)
+    storeAfter 0 (decoding code pool (recordRoom records) (entryRoom entries)) records (recordsFrom 0 0 (fitted code pool (recordRoom records) (entryRoom entries)) records)
 
 abbrev pub entriesAfter : List ℕ → List ℕ → List ℕ → List ℕ → List ℕ
 entriesAfter code pool records entries =
-    storeAfter (decoding code pool (recordRoom records) (entryRoom entries)) entries (entriesFrom code 0 (fitted code pool (recordRoom records) (entryRoom entries)) entries)
+    storeAfter 0 (decoding code pool (recordRoom records) (entryRoom entries)) entries (entriesFrom code 0 (fitted code pool (recordRoom records) (entryRoom entries)) entries)

@@ -7,7 +7,7 @@ use Rattle.laws.specs.Examples.{Computes}
 use Rattle.records.specs.Records.{recordRoom, entryRoom}
 use Rattle.bytecode.specs.declared.Decoded.{Decoded}
 use Rattle.bytecode.specs.declared.Decoded.the-variants as decoded
-use Rattle.bytecode.specs.Decoding.{decoding, recordsAfter, entriesAfter}
+use Rattle.bytecode.specs.Decoding.{decoding, storeAfter, recordsAfter, entriesAfter}
 
 abbrev accepted : ℕ → ℕ → Decoded
 accepted instructions entries = decoded.Accepted instructions entries
@@ -101,4 +101,14 @@ LimitsCompute =
     ∷ (([], replicate 4097 0), refused 2 0 0)
     ∷ (([], replicate 4096 0), accepted 0 0)
     ∷ ((0xcb ∷ [], replicate 4096 0), refused 4 0 0)
+    ∷ [])
+
+-- a store of nines afterwards, by the mark from which a refusal clears it: proved as `marks-compute`
+abbrev pub MarksCompute : Type 0
+MarksCompute =
+    Computes (λ (q : ℕ × Decoded). storeAfter (q .0) (q .1) (replicate 4 9) (replicate 4 7)) (
+    ((0, refused 13 0 0), zeros 4)
+    ∷ ((3, refused 13 0 0), 9 ∷ 9 ∷ 9 ∷ 0 ∷ [])
+    ∷ ((4, refused 13 0 0), replicate 4 9)
+    ∷ ((3, accepted 1 0), replicate 4 7)
     ∷ [])

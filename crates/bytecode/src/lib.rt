@@ -103,8 +103,8 @@ fn fill(code: &[u8], pool: &[u8], records: &mut [u32], entries: &mut [u32]) -> R
 // The answer. A refusal leaves in the stores what was written before it.
 fn decide(code: &[u8], pool: &[u8], records: &mut [u32], entries: &mut [u32]) -> Decoded
     ensures answers { λ r. ⌜ r ≡ decoding (now (code .entry)) (now (pool .entry)) (recordRoom (now (records .entry))) (entryRoom (now (entries .entry))) ⌝ }
-    ensures fills_records { λ r. ⌜ storeAfter r (now (records .entry)) (now (records .exit)) ≡ recordsAfter (now (code .entry)) (now (pool .entry)) (now (records .entry)) (now (entries .entry)) ⌝ }
-    ensures fills_entries { λ r. ⌜ storeAfter r (now (entries .entry)) (now (entries .exit)) ≡ entriesAfter (now (code .entry)) (now (pool .entry)) (now (records .entry)) (now (entries .entry)) ⌝ }
+    ensures fills_records { λ r. ⌜ storeAfter 0 r (now (records .entry)) (now (records .exit)) ≡ recordsAfter (now (code .entry)) (now (pool .entry)) (now (records .entry)) (now (entries .entry)) ⌝ }
+    ensures fills_entries { λ r. ⌜ storeAfter 0 r (now (entries .entry)) (now (entries .exit)) ≡ entriesAfter (now (code .entry)) (now (pool .entry)) (now (records .entry)) (now (entries .entry)) ⌝ }
 {
     if CODE_LIMIT < code.len() {
         return Decoded::Refused(CODE_TOO_LONG, CodeOffset(0), 0);
@@ -124,8 +124,8 @@ fn decide(code: &[u8], pool: &[u8], records: &mut [u32], entries: &mut [u32]) ->
 // The answer, both stores cleared if it is a refusal.
 fn settled(records: &mut [u32], entries: &mut [u32], answer: Decoded) -> Decoded
     ensures same { λ r. ⌜ r ≡ answer ⌝ }
-    ensures clears_records { λ r. ⌜ now (records .exit) ≡ storeAfter answer (now (records .entry)) (now (records .entry)) ⌝ }
-    ensures clears_entries { λ r. ⌜ now (entries .exit) ≡ storeAfter answer (now (entries .entry)) (now (entries .entry)) ⌝ }
+    ensures clears_records { λ r. ⌜ now (records .exit) ≡ storeAfter 0 answer (now (records .entry)) (now (records .entry)) ⌝ }
+    ensures clears_entries { λ r. ⌜ now (entries .exit) ≡ storeAfter 0 answer (now (entries .entry)) (now (entries .entry)) ⌝ }
 {
     match answer {
         Decoded::Accepted(count, stored) => Decoded::Accepted(count, stored),

@@ -28,6 +28,6 @@ pub stores-pool : StoresPool
 stores-pool code pool other records entries a =
     let same = lines-pool code pool other (a .same) in
     let answer = decoding-pool code pool other (recordRoom records) (entryRoom entries) a in (
-      ap₂ (λ (d : Decoded) (ls : Lines). storeAfter d records (recordsFrom 0 0 (fitting (recordRoom records) (entryRoom entries) ls) records)) answer same,
-      ap₂ (λ (d : Decoded) (ls : Lines). storeAfter d entries (entriesFrom code 0 (fitting (recordRoom records) (entryRoom entries) ls) entries)) answer same,
+      ap₂ (λ (d : Decoded) (ls : Lines). storeAfter 0 d records (recordsFrom 0 0 (fitting (recordRoom records) (entryRoom entries) ls) records)) answer same,
+      ap₂ (λ (d : Decoded) (ls : Lines). storeAfter 0 d entries (entriesFrom code 0 (fitting (recordRoom records) (entryRoom entries) ls) entries)) answer same,
     )

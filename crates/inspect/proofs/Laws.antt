@@ -38,11 +38,11 @@ module _ (code pool records entries : List ℕ) {answer : Decoded} {k m : ℕ} (
 
   records-are : recordsAfter code pool records entries ≡ recordsFrom 0 0 (fitted code pool (recordRoom records) (entryRoom entries)) records
   unfolding storeAfter
-  records-are = ap (λ (d : Decoded). storeAfter d records (recordsFrom 0 0 (fitted code pool (recordRoom records) (entryRoom entries)) records)) accepted
+  records-are = ap (λ (d : Decoded). storeAfter 0 d records (recordsFrom 0 0 (fitted code pool (recordRoom records) (entryRoom entries)) records)) accepted
 
   entries-are : entriesAfter code pool records entries ≡ entriesFrom code 0 (fitted code pool (recordRoom records) (entryRoom entries)) entries
   unfolding storeAfter
-  entries-are = ap (λ (d : Decoded). storeAfter d entries (entriesFrom code 0 (fitted code pool (recordRoom records) (entryRoom entries)) entries)) accepted
+  entries-are = ap (λ (d : Decoded). storeAfter 0 d entries (entriesFrom code 0 (fitted code pool (recordRoom records) (entryRoom entries)) entries)) accepted
 
   pub accepted-stores : {records′ entries′ : List ℕ} → records′ ≡ recordsAfter code pool records entries → entries′ ≡ entriesAfter code pool records entries → Sorted records′ k × AllHeld records′ k entries′
   accepted-stores r s = rw (r, s, records-are, entries-are) (filled-sorted code pool records entries filled, filled-held code pool records entries filled)
