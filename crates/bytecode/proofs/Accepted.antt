@@ -1,12 +1,9 @@
 -- What an acceptance means: both lengths are within their limits, all instructions have room, the code ends with the last
 -- of them, and every jump lands. The stores then tell the jumps of these instructions.
 use Prim.Native.Nat.{ℕ, _+_, _-_, _≤_}
-use mathlib.Core.Bool.{Bool, true, false}
 use mathlib.Core.List.{List}
 use mathlib.Core.Path.{_≡_, refl, sym, ap, ap₂, _∙_, subst}
 use native.Mathlib.Omega.{arith}
-use borrow.Author.Tests.{leb-true}
-use lib.Dec.{leb}
 use lib.ListN.{length}
 use Rattle.read.specs.declared.CodeOffset.{CodeOffset}
 use Rattle.instruction.specs.Theorems.{entriesOf}
@@ -19,8 +16,10 @@ use Rattle.jumps.specs.Stored.{jumpsIn}
 use Rattle.bytecode.specs.declared.Decoded.the-variants as decoded
 use Rattle.bytecode.specs.declared.Run.{Run}
 use Rattle.bytecode.specs.declared.Run.the-variants as run
-use Rattle.bytecode.specs.Decoding.{codeLimit, poolLimit, fitting, fitted, runFrom, recordsFrom, entriesFrom, jumpsOf, judged, decoding, storeAfter, recordsAfter, entriesAfter}
+use Rattle.bytecode.specs.Decoding.{codeLimit, poolLimit, fitting, fitted, runFrom, recordsFrom, entriesFrom, jumpsOf, judged, answerOf, decoding, storeAfter, recordsAfter, entriesAfter}
+use Rattle.bytecode.specs.Theorems.{StoresSay}
 use Rattle.bytecode.proofs.Laws.{by-fitting, not-filled}
+use Rattle.bytecode.proofs.Limits.{Limits, by-limits}
 use Rattle.bytecode.proofs.Stored.{filled-jumps}
 
 -- lines that fill stores fit all
@@ -42,53 +41,48 @@ judged-accepted (run.Filled k′ m′) checked.Good k m e = (cc, refl)
 judged-accepted (run.Filled k′ m′) (checked.Bad n p second) k m e = absurd (never e)
 judged-accepted (run.Refused n p) c k m e = absurd (never e)
 
-module _ (code pool records entries : List ℕ) (k m : ℕ) where
+module _ (code pool : List ℕ) (record-room entry-room k m : ℕ) where
   pub record Acceptance : Type 0 where
     pub short-code : length code ≤ codeLimit
     pub short-pool : length pool ≤ poolLimit
-    pub all-fit : fitted code pool records entries ≡ linesOf code pool
+    pub all-fit : fitted code pool record-room entry-room ≡ linesOf code pool
     pub filled : runFrom 0 0 (linesOf code pool) ≡ run.Filled k m
     pub good : check (jumpsOf code (linesOf code pool)) ≡ checked.Good
 
-  module _ (accepted : decoding code pool records entries ≡ decoded.Accepted k m) where
-    pub acceptance : Acceptance
-    unfolding decoding
-    acceptance = go (leb (length code) codeLimit) refl (leb (length pool) poolLimit) refl accepted
-      where
-        go :
-            (c : Bool) → leb (length code) codeLimit ≡ c → (p : Bool) → leb (length pool) poolLimit ≡ p
-            → elim c [
-              | true ↦ elim p [
-                | true ↦ judged (runFrom 0 0 (fitted code pool records entries)) (check (jumpsOf code (fitted code pool records entries)))
-                | false ↦ decoded.Refused 2 (record { 0 = 0 }) 0
-              ]
-              | false ↦ decoded.Refused 1 (record { 0 = 0 }) 0
-            ] ≡ decoded.Accepted k m
-            → Acceptance
-        go true c true p e =
-            let both = judged-accepted _ _ k m e in
-            let fits = filled-fits (linesOf code pool) (recordRoom records) (entryRoom entries) 0 0 k m (both .0) in
-            record {
-              short-code = leb-true _ _ c;
-              short-pool = leb-true _ _ p;
-              all-fit = fits;
-              filled = ap (runFrom 0 0) (sym fits) ∙ both .0;
-              good = ap (λ (ls : Lines). check (jumpsOf code ls)) (sym fits) ∙ both .1;
-            }
-        go true c false p e = absurd (never e)
-        go false c b p e = absurd (never e)
+  pub acceptance : decoding code pool record-room entry-room ≡ decoded.Accepted k m → Acceptance
+  unfolding decoding
+  acceptance accepted = go (by-limits code pool (answerOf code (fitted code pool record-room entry-room)) accepted)
+    where
+      go : Limits code pool (answerOf code (fitted code pool record-room entry-room)) (decoded.Accepted k m) → Acceptance
+      go (Limits.within c p e) =
+          let both = judged-accepted _ _ k m (sym e) in
+          let fits = filled-fits (linesOf code pool) record-room entry-room 0 0 k m (both .0) in
+          record {
+            short-code = c;
+            short-pool = p;
+            all-fit = fits;
+            filled = ap (runFrom 0 0) (sym fits) ∙ both .0;
+            good = ap (λ (ls : Lines). check (jumpsOf code ls)) (sym fits) ∙ both .1;
+          }
+      go (Limits.long-pool c p e) = absurd (never (sym e))
+      go (Limits.long-code c e) = absurd (never (sym e))
 
-    -- the stores are those of all instructions, and their words tell the jumps of these
-    pub accepted-records : recordsAfter code pool records entries ≡ recordsFrom 0 0 (linesOf code pool) records
-    unfolding storeAfter
-    accepted-records = rw (accepted, acceptance .all-fit)
+module _ (code pool records entries : List ℕ) (k m : ℕ) (accepted : decoding code pool (recordRoom records) (entryRoom entries) ≡ decoded.Accepted k m) where
+  accepts : Acceptance code pool (recordRoom records) (entryRoom entries) k m
+  accepts = acceptance code pool (recordRoom records) (entryRoom entries) k m accepted
 
-    pub accepted-entries : entriesAfter code pool records entries ≡ entriesFrom code 0 (linesOf code pool) entries
-    unfolding storeAfter
-    accepted-entries = rw (accepted, acceptance .all-fit)
+  -- the stores are those of all instructions
+  pub accepted-records : recordsAfter code pool records entries ≡ recordsFrom 0 0 (linesOf code pool) records
+  unfolding storeAfter
+  accepted-records = rw (accepted, accepts .all-fit)
 
-    pub stores-say : jumpsIn (recordsAfter code pool records entries) k (entriesAfter code pool records entries) ≡ jumpsOf code (linesOf code pool)
-    stores-say =
-        ap₂ (λ (r e : List ℕ). jumpsIn r k e) accepted-records accepted-entries
-        ∙ subst (λ (ls : Lines). jumpsIn (recordsFrom 0 0 ls records) k (entriesFrom code 0 ls entries) ≡ jumpsOf code ls) (acceptance .all-fit)
-        (filled-jumps code pool records entries (ap (runFrom 0 0) (acceptance .all-fit) ∙ acceptance .filled))
+  pub accepted-entries : entriesAfter code pool records entries ≡ entriesFrom code 0 (linesOf code pool) entries
+  unfolding storeAfter
+  accepted-entries = rw (accepted, accepts .all-fit)
+
+pub stores-say : StoresSay
+stores-say code pool records entries k m accepted =
+    let a = acceptance code pool (recordRoom records) (entryRoom entries) k m accepted in
+    ap₂ (λ (r e : List ℕ). jumpsIn r k e) (accepted-records code pool records entries k m accepted) (accepted-entries code pool records entries k m accepted)
+    ∙ subst (λ (ls : Lines). jumpsIn (recordsFrom 0 0 ls records) k (entriesFrom code 0 ls entries) ≡ jumpsOf code ls) (a .all-fit)
+    (filled-jumps code pool records entries (ap (runFrom 0 0) (a .all-fit) ∙ a .filled))

@@ -13,13 +13,17 @@ use Rattle.records.specs.Records.{allEntryWords}
 use Rattle.switches.specs.Entries.{tableFrom, pairsFrom}
 use Rattle.jumps.specs.Jumps.{jumpCheck, wordsCheck, allCheck}
 use Rattle.jumps.specs.Stored.{hasJump}
-use Rattle.bytecode.specs.Decoding.{fitting, runFrom, recordsFrom, entriesFrom, jumpWords, decoding, storeAfter}
-use Rattle.bytecode.specs.Examples.{CodesCompute, LimitsCompute}
+use Rattle.bytecode.specs.Decoding.{fitting, runFrom, recordsFrom, entriesFrom, jumpWords, limited, decoding, storeAfter}
+use Rattle.bytecode.specs.Examples.{CodesCompute, LimitsCompute, MarksCompute}
 
 pub codes-compute : CodesCompute
-unfolding bigEndian readOf formats formatOf kindOf wideFormOf signedIn extended signedRead unlessFault operandsFrom wordsFrom countOf stepOf linesFrom listOf allEntryWords tableFrom pairsFrom jumpCheck wordsCheck allCheck hasJump fitting runFrom recordsFrom entriesFrom jumpWords decoding storeAfter
+unfolding bigEndian readOf formats formatOf kindOf wideFormOf signedIn extended signedRead unlessFault operandsFrom wordsFrom countOf stepOf linesFrom listOf allEntryWords tableFrom pairsFrom jumpCheck wordsCheck allCheck hasJump fitting runFrom recordsFrom entriesFrom jumpWords limited decoding storeAfter
 codes-compute = refl
 
 pub limits-compute : LimitsCompute
-unfolding bigEndian readOf formats formatOf stepOf linesFrom listOf allCheck fitting runFrom recordsFrom decoding storeAfter
+unfolding bigEndian readOf formats formatOf stepOf linesFrom listOf allCheck fitting runFrom recordsFrom limited decoding storeAfter
 limits-compute = refl
+
+pub marks-compute : MarksCompute
+unfolding storeAfter
+marks-compute = refl

@@ -14,7 +14,7 @@ use Rattle.instruction.specs.Theorems.{entriesOf}
 use Rattle.instruction.proofs.Exactly.{step-within}
 use Rattle.lines.specs.Lines.{Line, Lines, linesFrom}
 use Rattle.lines.proofs.Laws.{lines-more, lines-stop, lines-end}
-use Rattle.records.specs.Records.{recordWords, entryWords, recordRoom, entryRoom, wordsOf, allEntryWords}
+use Rattle.records.specs.Records.{recordWords, entryWords, recordRoom, entryRoom, index, wordsOf, allEntryWords}
 use Rattle.switches.specs.Entries.{entriesIn}
 use Rattle.filling.specs.Filling.{recordOf}
 use Rattle.bytecode.specs.declared.Run.{Run}
@@ -24,7 +24,7 @@ use Rattle.bytecode.proofs.Laws.{fit-line, fit-14, fit-15}
 
 module _ (code pool records₀ entries₀ : List ℕ) where
   abbrev whole : Lines
-  whole = fitted code pool records₀ entries₀
+  whole = fitted code pool (recordRoom records₀) (entryRoom entries₀)
 
   -- what the answer and the stores are to be
   abbrev pub Fills : Run → List ℕ → List ℕ → Type 0
@@ -122,7 +122,7 @@ module _ (code pool records₀ entries₀ : List ℕ) where
                 counted = omega (arith, within .longer, l .counted);
                 stored = omega (arith, within .longer, l .stored);
                 inside = within .ends;
-                kept-records = length-sets records (k * recordWords) (wordsOf (recordOf at m i)) ∙ l .kept-records;
+                kept-records = length-sets records (k * recordWords) (wordsOf (recordOf (record { 0 = at }) (index m) i)) ∙ l .kept-records;
                 kept-entries = length-sets entries (m * entryWords) (allEntryWords (entriesIn code i)) ∙ l .kept-entries;
                 fits = omega arith;
                 fits-entries = omega (arith, l .fits-entries);

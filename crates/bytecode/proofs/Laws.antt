@@ -75,7 +75,7 @@ run-count (Lines.stop n p) k m k′ m′ e = absurd (not-filled e)
 -- what was stored before stays, and so do the lengths
 pub records-before : (ls : Lines) (k m : ℕ) (records : List ℕ) (j : ℕ) → j < k → recordAt (recordsFrom k m ls records) (index j) ≡ recordAt records (index j)
 unfolding recordsFrom
-records-before (Lines.line l rest) k m records j h = records-before rest (k + 1) _ (withRecord k m l records) j (omega arith) ∙ record-before records (wordsOf (recordOf (l .at .0) m (l .instruction))) k j h
+records-before (Lines.line l rest) k m records j h = records-before rest (k + 1) _ (withRecord k m l records) j (omega arith) ∙ record-before records (wordsOf (recordOf (l .at) (index m) (l .instruction))) k j h
 records-before Lines.end k m records j h = refl
 records-before (Lines.stop n p) k m records j h = refl
 
@@ -87,7 +87,7 @@ entries-before code (Lines.stop n p) m entries j h = refl
 
 pub length-records : (ls : Lines) (k m : ℕ) (records : List ℕ) → length (recordsFrom k m ls records) ≡ length records
 unfolding recordsFrom
-length-records (Lines.line l rest) k m records = length-records rest (k + 1) _ (withRecord k m l records) ∙ length-sets records (k * recordWords) (wordsOf (recordOf (l .at .0) m (l .instruction)))
+length-records (Lines.line l rest) k m records = length-records rest (k + 1) _ (withRecord k m l records) ∙ length-sets records (k * recordWords) (wordsOf (recordOf (l .at) (index m) (l .instruction)))
 length-records Lines.end k m records = refl
 length-records (Lines.stop n p) k m records = refl
 

@@ -1,4 +1,5 @@
 pub mod Laws
+pub mod Limits
 pub mod Stored
 pub mod Filling
 pub mod Deciding

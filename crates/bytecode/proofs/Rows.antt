@@ -9,13 +9,14 @@ use lib.Seq.{sets, sets-eq}
 use Rattle.instruction.specs.Theorems.{entriesOf}
 use Rattle.lines.specs.Lines.{Lines, linesOf, listOf}
 use Rattle.records.specs.declared.SwitchEntry.{SwitchEntry}
-use Rattle.records.specs.Records.{recordWords, entryWords, recordRoom, entryRoom, wordsOf, allEntryWords}
+use Rattle.records.specs.Records.{recordWords, entryWords, recordRoom, entryRoom, index, wordsOf, allEntryWords}
 use Rattle.switches.specs.Entries.{entriesIn}
 use Rattle.filling.specs.Filling.{recordOf}
 use Rattle.filling.proofs.Entries.{all-entries}
 use Rattle.bytecode.specs.declared.Run.the-variants as run
 use Rattle.bytecode.specs.Decoding.{fitting, fitted, runFrom, withRecord, withEntries, recordsFrom, entriesFrom}
-use Rattle.bytecode.specs.Theorems.{recordRow, entryRow, RecordsInRow, EntriesInRow, AcceptedStores}
+use Rattle.bytecode.specs.Rows.{recordRow, entryRow}
+use Rattle.bytecode.specs.Theorems.{RecordsInRow, EntriesInRow, AcceptedStores}
 use Rattle.bytecode.proofs.Laws.{by-fitting, not-filled, fitting-short, run-count}
 use Rattle.bytecode.proofs.Accepted.{acceptance, accepted-records, accepted-entries}
 
@@ -33,7 +34,7 @@ entry-words (e ∷ es) = omega (arith, entry-words es)
 pub records-in-row : RecordsInRow
 unfolding recordsFrom recordRow listOf
 records-in-row (Lines.line l rest) k m records =
-    let own = wordsOf (recordOf (l .at .0) m (l .instruction)) in
+    let own = wordsOf (recordOf (l .at) (index m) (l .instruction)) in
     let past : (k + 1) * recordWords ≡ k * recordWords + 6 = omega arith in
     records-in-row rest (k + 1) (m + entriesOf (l .instruction)) (withRecord k m l records)
     ∙ ap (λ (n : ℕ). sets (withRecord k m l records) n (recordRow (m + entriesOf (l .instruction)) (listOf rest))) past
@@ -93,10 +94,10 @@ at-front words store n e h =
 
 pub accepted-stores : AcceptedStores
 accepted-stores code pool records entries k m e =
-    let a = acceptance code pool records entries k m e in
+    let a = acceptance code pool (recordRoom records) (entryRoom entries) k m e in
     let fit = ap (runFrom 0 0) (a .all-fit) ∙ a .filled in
     let some = fitting-short (linesOf code pool) (recordRoom records) (entryRoom entries) in
-    let number = run-count (fitted code pool records entries) 0 0 k m fit in
+    let number = run-count (fitted code pool (recordRoom records) (entryRoom entries)) 0 0 k m fit in
     let few = run-entries (linesOf code pool) (recordRoom records) (entryRoom entries) 0 0 k m fit in (
       accepted-records code pool records entries k m e
           ∙ records-in-row (linesOf code pool) 0 0 records

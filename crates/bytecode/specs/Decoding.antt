@@ -2,16 +2,16 @@
 -- those of `linesOf`, which knows no store; here they meet the stores, the limits and the check of the jumps.
 use Prim.Native.Nat.{ℕ, zero, suc, _+_, _-_, _*_}
 use mathlib.Core.Bool.{true, false}
-use mathlib.Core.List.{List, [], _∷_, map}
+use mathlib.Core.List.{List, [], _∷_, _++_, map}
 use lib.Dec.{leb}
-use lib.ListN.{length, replicate}
+use lib.ListN.{length, take, replicate}
 use lib.Seq.{sets}
 use Rattle.ordinary.specs.declared.Instruction.{Instruction}
 use Rattle.ordinary.specs.declared.Instruction.the-variants as instruction
 use Rattle.instruction.specs.Theorems.{entriesOf}
 use Rattle.lines.specs.Lines.{Line, Lines, linesOf, listOf}
 use Rattle.records.specs.declared.SwitchEntry.{SwitchEntry}
-use Rattle.records.specs.Records.{recordWords, entryWords, recordRoom, entryRoom, wordsOf, allEntryWords}
+use Rattle.records.specs.Records.{recordWords, entryWords, recordRoom, entryRoom, index, wordsOf, allEntryWords}
 use Rattle.switches.specs.Entries.{entriesIn}
 use Rattle.filling.specs.Filling.{recordOf}
 use Rattle.jumps.specs.declared.Checked.{Checked}
@@ -43,9 +43,9 @@ fitting records entries (Lines.line l rest) =
 fitting records entries Lines.end = Lines.end
 fitting records entries (Lines.stop n p) = Lines.stop n p
 
--- The lines of a code as far as two stores have room for them
-abbrev pub fitted : List ℕ → List ℕ → List ℕ → List ℕ → Lines
-fitted code pool records entries = fitting (recordRoom records) (entryRoom entries) (linesOf code pool)
+-- The lines of a code as far as there is room for them
+abbrev pub fitted : List ℕ → List ℕ → ℕ → ℕ → Lines
+fitted code pool record-room entry-room = fitting record-room entry-room (linesOf code pool)
 
 -- What lines answer and store, where so many records and entries are stored before them
 unfoldable pub runFrom : ℕ → ℕ → Lines → Run
@@ -55,7 +55,7 @@ runFrom k m (Lines.stop n p) = run.Refused n p
 
 -- one line in the store of records, at its index, and in the store of entries
 abbrev pub withRecord : ℕ → ℕ → Line → List ℕ → List ℕ
-withRecord k m l records = sets records (k * recordWords) (wordsOf (recordOf (l .at .0) m (l .instruction)))
+withRecord k m l records = sets records (k * recordWords) (wordsOf (recordOf (l .at) (index m) (l .instruction)))
 
 abbrev pub withEntries : List ℕ → ℕ → Line → List ℕ → List ℕ
 withEntries code m l entries = sets entries (m * entryWords) (allEntryWords (entriesIn code (l .instruction)))
@@ -90,26 +90,32 @@ judged (run.Filled k m) checked.Good = decoded.Accepted k m
 judged (run.Filled k m) (checked.Bad n p second) = decoded.Refused n p second
 judged (run.Refused n p) c = decoded.Refused n p 0
 
--- The whole answer. 1: the code is over its limit. 2: the pool table is
-unfoldable pub decoding : List ℕ → List ℕ → List ℕ → List ℕ → Decoded
-decoding code pool records entries =
+abbrev pub answerOf : List ℕ → Lines → Decoded
+answerOf code ls = judged (runFrom 0 0 ls) (check (jumpsOf code ls))
+
+-- The limits go before any answer. 1: the code is over its limit. 2: the pool table is
+unfoldable pub limited : List ℕ → List ℕ → Decoded → Decoded
+limited code pool answer =
     elim (leb (length code) codeLimit) [
-      | true ↦ elim (leb (length pool) poolLimit) [
-        | true ↦ judged (runFrom 0 0 (fitted code pool records entries)) (check (jumpsOf code (fitted code pool records entries)))
-        | false ↦ decoded.Refused 2 (record { 0 = 0 }) 0
-      ]
+      | true ↦ elim (leb (length pool) poolLimit) [ true ↦ answer | false ↦ decoded.Refused 2 (record { 0 = 0 }) 0 ]
       | false ↦ decoded.Refused 1 (record { 0 = 0 }) 0
     ]
 
--- The stores afterwards: what is written where the answer is acceptance, and zero in every word where it is a refusal
-unfoldable pub storeAfter : Decoded → List ℕ → List ℕ → List ℕ
-storeAfter (decoded.Accepted k m) before written = written
-storeAfter (decoded.Refused n p second) before written = replicate (length before) 0
+-- The whole answer, where there is room for so many records and so many entries
+unfoldable pub decoding : List ℕ → List ℕ → ℕ → ℕ → Decoded
+decoding code pool record-room entry-room = limited code pool (answerOf code (fitted code pool record-room entry-room))
 
+-- A store afterwards: what is written where the answer is acceptance. A refusal leaves the words before a mark as they
+-- were, and every word from it on is zero
+unfoldable pub storeAfter : ℕ → Decoded → List ℕ → List ℕ → List ℕ
+storeAfter mark (decoded.Accepted k m) before written = written
+storeAfter mark (decoded.Refused n p second) before written = take mark before ++ replicate (length before - mark) 0
+
+-- Decoding starts with empty stores: the mark is 0 in both
 abbrev pub recordsAfter : List ℕ → List ℕ → List ℕ → List ℕ → List ℕ
 recordsAfter code pool records entries =
-    storeAfter (decoding code pool records entries) records (recordsFrom 0 0 (fitted code pool records entries) records)
+    storeAfter 0 (decoding code pool (recordRoom records) (entryRoom entries)) records (recordsFrom 0 0 (fitted code pool (recordRoom records) (entryRoom entries)) records)
 
 abbrev pub entriesAfter : List ℕ → List ℕ → List ℕ → List ℕ → List ℕ
 entriesAfter code pool records entries =
-    storeAfter (decoding code pool records entries) entries (entriesFrom code 0 (fitted code pool records entries) entries)
+    storeAfter 0 (decoding code pool (recordRoom records) (entryRoom entries)) entries (entriesFrom code 0 (fitted code pool (recordRoom records) (entryRoom entries)) entries)

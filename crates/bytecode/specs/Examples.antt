@@ -4,9 +4,10 @@ use Prim.Native.Nat.{ℕ}
 use mathlib.Core.List.{List, [], _∷_, _++_}
 use lib.ListN.{replicate}
 use Rattle.laws.specs.Examples.{Computes}
+use Rattle.records.specs.Records.{recordRoom, entryRoom}
 use Rattle.bytecode.specs.declared.Decoded.{Decoded}
 use Rattle.bytecode.specs.declared.Decoded.the-variants as decoded
-use Rattle.bytecode.specs.Decoding.{decoding, recordsAfter, entriesAfter}
+use Rattle.bytecode.specs.Decoding.{decoding, storeAfter, recordsAfter, entriesAfter}
 
 abbrev accepted : ℕ → ℕ → Decoded
 accepted instructions entries = decoded.Accepted instructions entries
@@ -22,7 +23,7 @@ abbrev decoded-in : (List ℕ × ℕ × ℕ) → Whole
 decoded-in q =
     let records : List ℕ = replicate (q .1) 9 in
     let entries : List ℕ = replicate (q .2) 9 in
-    (decoding (q .0) [] records entries, recordsAfter (q .0) [] records entries, entriesAfter (q .0) [] records entries)
+    (decoding (q .0) [] (recordRoom records) (entryRoom entries), recordsAfter (q .0) [] records entries, entriesAfter (q .0) [] records entries)
 
 abbrev zeros : ℕ → List ℕ
 zeros n = replicate n 0
@@ -94,10 +95,20 @@ CodesCompute =
 -- the limits of the code and of the pool table: proved as `limits-compute`
 abbrev pub LimitsCompute : Type 0
 LimitsCompute =
-    Computes (λ (q : List ℕ × List ℕ). decoding (q .0) (q .1) (9 ∷ []) []) (
+    Computes (λ (q : List ℕ × List ℕ). decoding (q .0) (q .1) 0 0) (
     ((replicate 65536 0, []), refused 1 0 0)
     ∷ ((replicate 65536 0, replicate 4097 0), refused 1 0 0)
     ∷ (([], replicate 4097 0), refused 2 0 0)
     ∷ (([], replicate 4096 0), accepted 0 0)
     ∷ ((0xcb ∷ [], replicate 4096 0), refused 4 0 0)
+    ∷ [])
+
+-- a store of nines afterwards, by the mark from which a refusal clears it: proved as `marks-compute`
+abbrev pub MarksCompute : Type 0
+MarksCompute =
+    Computes (λ (q : ℕ × Decoded). storeAfter (q .0) (q .1) (replicate 4 9) (replicate 4 7)) (
+    ((0, refused 13 0 0), zeros 4)
+    ∷ ((3, refused 13 0 0), 9 ∷ 9 ∷ 9 ∷ 0 ∷ [])
+    ∷ ((4, refused 13 0 0), replicate 4 9)
+    ∷ ((3, accepted 1 0), replicate 4 7)
     ∷ [])

@@ -1,3 +1,4 @@
 pub mod Decoding
+pub mod Rows
 pub mod Theorems
 pub mod Examples

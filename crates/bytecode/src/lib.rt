@@ -45,32 +45,32 @@ pub enum Run {
     Refused(u32, CodeOffset),
 }
 
-// The instruction at an offset, in both stores: its record at an index, and its entries after those that are stored.
+// The instruction at an offset, in both stores: its record at an index, and its entries from the first on.
 fn put_line(
     code: &[u8],
-    at: usize,
+    at: CodeOffset,
     instruction: Instruction,
     records: &mut [u32],
-    count: usize,
+    index: RecordIndex,
     entries: &mut [u32],
-    stored: usize,
+    first: RecordIndex,
 )
-    requires { ⌜ (at < 2 ^ 32) × (stored < 2 ^ 32) × EntriesInside (now code) instruction ⌝ }
-    requires { ⌜ (count < recordRoom (now records)) × (stored + entriesOf instruction ≤ entryRoom (now entries)) ⌝ }
-    ensures puts_record { λ _. ⌜ now (records .exit) ≡ sets (now (records .entry)) (count * recordWords) (wordsOf (recordOf at stored instruction)) ⌝ }
-    ensures puts_entries { λ _. ⌜ now (entries .exit) ≡ sets (now (entries .entry)) (stored * entryWords) (allEntryWords (entriesIn (now (code .entry)) instruction)) ⌝ }
+    requires { ⌜ (at .0 < 2 ^ 32) × (first .0 < 2 ^ 32) × EntriesInside (now code) instruction ⌝ }
+    requires { ⌜ (index .0 < recordRoom (now records)) × (first .0 + entriesOf instruction ≤ entryRoom (now entries)) ⌝ }
+    ensures puts_record { λ _. ⌜ now (records .exit) ≡ sets (now (records .entry)) (index .0 * recordWords) (wordsOf (recordOf at first instruction)) ⌝ }
+    ensures puts_entries { λ _. ⌜ now (entries .exit) ≡ sets (now (entries .entry)) (first .0 * entryWords) (allEntryWords (entriesIn (now (code .entry)) instruction)) ⌝ }
 {
-    let record_words = filling::record_of(at as u32, stored as u32, instruction);
-    records::put_record(records, RecordIndex(count), record_words);
-    filling::put_entries(code, instruction, entries, stored);
+    let record_words = filling::record_of(at, first, instruction);
+    records::put_record(records, index, record_words);
+    filling::put_entries(code, instruction, entries, first);
 }
 
 // All instructions into the stores, as far as these have room. A refusal leaves those before it there.
 fn fill(code: &[u8], pool: &[u8], records: &mut [u32], entries: &mut [u32]) -> Run
     requires { ⌜ length (now code) ≤ codeLimit ⌝ }
-    ensures answers { λ r. ⌜ r ≡ runFrom 0 0 (fitted (now (code .entry)) (now (pool .entry)) (now (records .entry)) (now (entries .entry))) ⌝ }
-    ensures fills_records { λ r. ⌜ now (records .exit) ≡ recordsFrom 0 0 (fitted (now (code .entry)) (now (pool .entry)) (now (records .entry)) (now (entries .entry))) (now (records .entry)) ⌝ }
-    ensures fills_entries { λ r. ⌜ now (entries .exit) ≡ entriesFrom (now (code .entry)) 0 (fitted (now (code .entry)) (now (pool .entry)) (now (records .entry)) (now (entries .entry))) (now (entries .entry)) ⌝ }
+    ensures answers { λ r. ⌜ r ≡ runFrom 0 0 (fitted (now (code .entry)) (now (pool .entry)) (recordRoom (now (records .entry))) (entryRoom (now (entries .entry)))) ⌝ }
+    ensures fills_records { λ r. ⌜ now (records .exit) ≡ recordsFrom 0 0 (fitted (now (code .entry)) (now (pool .entry)) (recordRoom (now (records .entry))) (entryRoom (now (entries .entry)))) (now (records .entry)) ⌝ }
+    ensures fills_entries { λ r. ⌜ now (entries .exit) ≡ entriesFrom (now (code .entry)) 0 (fitted (now (code .entry)) (now (pool .entry)) (recordRoom (now (records .entry))) (entryRoom (now (entries .entry)))) (now (entries .entry)) ⌝ }
 {
     let formats = opcodes::formats();
     let record_room = records.len() / RECORD_WORDS;
@@ -91,7 +91,15 @@ fn fill(code: &[u8], pool: &[u8], records: &mut [u32], entries: &mut [u32]) -> R
                 if record_room <= count {
                     return Run::Refused(NO_RECORD_LEFT, CodeOffset(at));
                 }
-                put_line(code, at, instruction, records, count, entries, stored);
+                put_line(
+                    code,
+                    CodeOffset(at),
+                    instruction,
+                    records,
+                    RecordIndex(count),
+                    entries,
+                    RecordIndex(stored),
+                );
                 at = next.0;
                 count += 1;
                 stored += own;
@@ -103,9 +111,9 @@ fn fill(code: &[u8], pool: &[u8], records: &mut [u32], entries: &mut [u32]) -> R
 
 // The answer. A refusal leaves in the stores what was written before it.
 fn decide(code: &[u8], pool: &[u8], records: &mut [u32], entries: &mut [u32]) -> Decoded
-    ensures answers { λ r. ⌜ r ≡ decoding (now (code .entry)) (now (pool .entry)) (now (records .entry)) (now (entries .entry)) ⌝ }
-    ensures fills_records { λ r. ⌜ storeAfter r (now (records .entry)) (now (records .exit)) ≡ recordsAfter (now (code .entry)) (now (pool .entry)) (now (records .entry)) (now (entries .entry)) ⌝ }
-    ensures fills_entries { λ r. ⌜ storeAfter r (now (entries .entry)) (now (entries .exit)) ≡ entriesAfter (now (code .entry)) (now (pool .entry)) (now (records .entry)) (now (entries .entry)) ⌝ }
+    ensures answers { λ r. ⌜ r ≡ decoding (now (code .entry)) (now (pool .entry)) (recordRoom (now (records .entry))) (entryRoom (now (entries .entry))) ⌝ }
+    ensures fills_records { λ r. ⌜ storeAfter 0 r (now (records .entry)) (now (records .exit)) ≡ recordsAfter (now (code .entry)) (now (pool .entry)) (now (records .entry)) (now (entries .entry)) ⌝ }
+    ensures fills_entries { λ r. ⌜ storeAfter 0 r (now (entries .entry)) (now (entries .exit)) ≡ entriesAfter (now (code .entry)) (now (pool .entry)) (now (records .entry)) (now (entries .entry)) ⌝ }
 {
     if CODE_LIMIT < code.len() {
         return Decoded::Refused(CODE_TOO_LONG, CodeOffset(0), 0);
@@ -125,8 +133,8 @@ fn decide(code: &[u8], pool: &[u8], records: &mut [u32], entries: &mut [u32]) ->
 // The answer, both stores cleared if it is a refusal.
 fn settled(records: &mut [u32], entries: &mut [u32], answer: Decoded) -> Decoded
     ensures same { λ r. ⌜ r ≡ answer ⌝ }
-    ensures clears_records { λ r. ⌜ now (records .exit) ≡ storeAfter answer (now (records .entry)) (now (records .entry)) ⌝ }
-    ensures clears_entries { λ r. ⌜ now (entries .exit) ≡ storeAfter answer (now (entries .entry)) (now (entries .entry)) ⌝ }
+    ensures clears_records { λ r. ⌜ now (records .exit) ≡ storeAfter 0 answer (now (records .entry)) (now (records .entry)) ⌝ }
+    ensures clears_entries { λ r. ⌜ now (entries .exit) ≡ storeAfter 0 answer (now (entries .entry)) (now (entries .entry)) ⌝ }
 {
     match answer {
         Decoded::Accepted(count, stored) => Decoded::Accepted(count, stored),
@@ -141,7 +149,7 @@ fn settled(records: &mut [u32], entries: &mut [u32], answer: Decoded) -> Decoded
 // The entry. Accepted: every instruction has its record in order, every switch its entries, and the words past them are as
 // they were. Refused: every word of both stores is zero.
 pub fn decode(code: &[u8], pool: &[u8], records: &mut [u32], entries: &mut [u32]) -> Decoded
-    ensures answers { λ r. ⌜ r ≡ decoding (now (code .entry)) (now (pool .entry)) (now (records .entry)) (now (entries .entry)) ⌝ }
+    ensures answers { λ r. ⌜ r ≡ decoding (now (code .entry)) (now (pool .entry)) (recordRoom (now (records .entry))) (entryRoom (now (entries .entry))) ⌝ }
     ensures stores_records { λ r. ⌜ now (records .exit) ≡ recordsAfter (now (code .entry)) (now (pool .entry)) (now (records .entry)) (now (entries .entry)) ⌝ }
     ensures stores_entries { λ r. ⌜ now (entries .exit) ≡ entriesAfter (now (code .entry)) (now (pool .entry)) (now (records .entry)) (now (entries .entry)) ⌝ }
 {

@@ -14,6 +14,7 @@ use Rattle.output.specs.declared.Output.{Output}
 use Rattle.output.specs.declared.Output.the-variants as output
 use Rattle.identifier.specs.Identifier.{identifying}
 use Rattle.identifier.proofs.Exactly.{identifies-exactly}
+use Rattle.records.specs.Records.{recordRoom, entryRoom}
 use Rattle.lookup.specs.Lookup.{Sorted}
 use Rattle.jumps.specs.Stored.{AllHeld}
 use Rattle.bytecode.specs.declared.Decoded.{Decoded}
@@ -26,22 +27,22 @@ use Rattle.bytecode.proofs.Accepted.{acceptance}
 pub identifier-fits : (name descriptor : List ℕ) (room : ℕ) {answer : Output} {n : ℕ} → answer ≡ identifying name descriptor room → answer ≡ output.Written n → n ≤ room
 identifier-fits name descriptor room {n = n} a e = identifies-exactly name descriptor room n .0 (sym a ∙ e) .fits
 
-module _ (code pool records entries : List ℕ) {answer : Decoded} {k m : ℕ} (a : answer ≡ decoding code pool records entries) (e : answer ≡ decoded.Accepted k m) where
-  accepted : decoding code pool records entries ≡ decoded.Accepted k m
+module _ (code pool records entries : List ℕ) {answer : Decoded} {k m : ℕ} (a : answer ≡ decoding code pool (recordRoom records) (entryRoom entries)) (e : answer ≡ decoded.Accepted k m) where
+  accepted : decoding code pool (recordRoom records) (entryRoom entries) ≡ decoded.Accepted k m
   accepted = sym a ∙ e
 
-  filled : runFrom 0 0 (fitted code pool records entries) ≡ run.Filled k m
+  filled : runFrom 0 0 (fitted code pool (recordRoom records) (entryRoom entries)) ≡ run.Filled k m
   filled =
-      let all = acceptance code pool records entries k m accepted in
+      let all = acceptance code pool (recordRoom records) (entryRoom entries) k m accepted in
       ap (runFrom 0 0) (all .all-fit) ∙ all .filled
 
-  records-are : recordsAfter code pool records entries ≡ recordsFrom 0 0 (fitted code pool records entries) records
+  records-are : recordsAfter code pool records entries ≡ recordsFrom 0 0 (fitted code pool (recordRoom records) (entryRoom entries)) records
   unfolding storeAfter
-  records-are = ap (λ (d : Decoded). storeAfter d records (recordsFrom 0 0 (fitted code pool records entries) records)) accepted
+  records-are = ap (λ (d : Decoded). storeAfter 0 d records (recordsFrom 0 0 (fitted code pool (recordRoom records) (entryRoom entries)) records)) accepted
 
-  entries-are : entriesAfter code pool records entries ≡ entriesFrom code 0 (fitted code pool records entries) entries
+  entries-are : entriesAfter code pool records entries ≡ entriesFrom code 0 (fitted code pool (recordRoom records) (entryRoom entries)) entries
   unfolding storeAfter
-  entries-are = ap (λ (d : Decoded). storeAfter d entries (entriesFrom code 0 (fitted code pool records entries) entries)) accepted
+  entries-are = ap (λ (d : Decoded). storeAfter 0 d entries (entriesFrom code 0 (fitted code pool (recordRoom records) (entryRoom entries)) entries)) accepted
 
   pub accepted-stores : {records′ entries′ : List ℕ} → records′ ≡ recordsAfter code pool records entries → entries′ ≡ entriesAfter code pool records entries → Sorted records′ k × AllHeld records′ k entries′
   accepted-stores r s = rw (r, s, records-are, entries-are) (filled-sorted code pool records entries filled, filled-held code pool records entries filled)

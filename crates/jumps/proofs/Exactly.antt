@@ -19,7 +19,8 @@ use Rattle.opcodes.specs.Kinds.{kindOf}
 use Rattle.jumps.specs.declared.Checked.the-variants as checked
 use Rattle.jumps.specs.Jumps.{Jumps, placed, targetOf, jumpCheck, jumpsCheck, startsOf, check}
 use Rattle.jumps.specs.Stored.{hasJump}
-use Rattle.jumps.specs.Theorems.{Lands, AllLand, GoodExactly, Fails, FirstFailing, BadExactly, jumpsBy, JumpKinds}
+use Rattle.jumps.specs.Landing.{Lands, AllLand, Fails, FirstFailing}
+use Rattle.jumps.specs.Theorems.{GoodExactly, BadExactly, jumpsBy, JumpKinds}
 use Rattle.jumps.proofs.Laws.{jump-below, jump-lands, jump-nowhere, words-go, jumps-go}
 use Rattle.jumps.proofs.First.{clash, First, all-fine, first}
 

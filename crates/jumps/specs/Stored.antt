@@ -34,9 +34,12 @@ storedWords entries r =
 abbrev pub storedJumps : List ℕ → Record → Jumps
 storedJumps entries r = record { at = record { 0 = r .offset }; words = storedWords entries r }
 
--- The jumps of the first records, in store order
+-- The jumps of so many records from an index on, in store order, and those of the first records
+abbrev pub jumpsFrom : List ℕ → ℕ → ℕ → List ℕ → List Jumps
+jumpsFrom records first count entries = listed (λ (i : ℕ). storedJumps entries (recordAt records (index i))) first count
+
 abbrev pub jumpsIn : List ℕ → ℕ → List ℕ → List Jumps
-jumpsIn records count entries = listed (λ (i : ℕ). storedJumps entries (recordAt records (index i))) 0 count
+jumpsIn records count entries = jumpsFrom records 0 count entries
 
 -- the entries of a record are all there
 abbrev pub Held : List ℕ → Record → Type 0

@@ -14,8 +14,8 @@ use Rattle.ordinary.specs.declared.Step.the-variants as step
 use Rattle.instruction.specs.Steps.{stepOf}
 use Rattle.instruction.specs.Names.{namesAt}
 use Rattle.instruction.proofs.Pool.{step-pool}
-use Rattle.lines.specs.Lines.{Lines, linesFrom}
-use Rattle.lines.specs.Theorems.{Reached, LinesPool}
+use Rattle.lines.specs.Lines.{Lines, linesFrom, Reached}
+use Rattle.lines.specs.Theorems.{LinesPool}
 use Rattle.lines.proofs.Laws.{lines-more, lines-stop, lines-end}
 
 module _ (code pool other : List ℕ) (agree : (at : CodeOffset) → Reached code pool at → (i : ℕ) → In i (namesAt code at) → entryAt pool i ≡ entryAt other i) where

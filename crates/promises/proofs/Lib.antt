@@ -1,5 +1,2 @@
-pub mod Decode
-pub mod Stores
-pub mod Pool
 pub mod Settled
 pub mod Pinned

@@ -17,9 +17,9 @@ use Rattle.records.specs.Records.{allEntryWords}
 use Rattle.switches.specs.Entries.{tableFrom}
 use Rattle.jumps.specs.Jumps.{jumpCheck, wordsCheck, allCheck}
 use Rattle.jumps.specs.Stored.{hasJump}
-use Rattle.bytecode.specs.Decoding.{fitting, runFrom, recordsFrom, entriesFrom, jumpWords, decoding, storeAfter}
+use Rattle.bytecode.specs.Decoding.{fitting, runFrom, recordsFrom, entriesFrom, jumpWords, limited, decoding, storeAfter}
 use Rattle.promises.specs.Settled.{SettledHold}
 
 pub settled-hold : SettledHold
-unfolding beginsWith sameText nameFrom aloneOf className objectOf typeFrom fieldFrom returnFrom fieldWhole fieldPrefix nextFrom restFrom opening methodReading within answerFrom storeFrom methodWhole methodStore bigEndian readOf formats formatOf kindOf wideFormOf signedIn extended signedRead unlessFault operandsFrom wordsFrom countOf stepOf linesFrom listOf allEntryWords tableFrom jumpCheck wordsCheck allCheck hasJump fitting runFrom recordsFrom entriesFrom jumpWords decoding storeAfter
+unfolding beginsWith sameText nameFrom aloneOf className objectOf typeFrom fieldFrom returnFrom fieldWhole fieldPrefix nextFrom restFrom opening methodReading within answerFrom storeFrom methodWhole methodStore bigEndian readOf formats formatOf kindOf wideFormOf signedIn extended signedRead unlessFault operandsFrom wordsFrom countOf stepOf linesFrom listOf allEntryWords tableFrom jumpCheck wordsCheck allCheck hasJump fitting runFrom recordsFrom entriesFrom jumpWords limited decoding storeAfter
 settled-hold = refl

@@ -38,7 +38,9 @@ use Rattle.lookup.specs.Lookup.{lookupOf}
 use Rattle.filling.specs.Filling.{recordOf}
 use Rattle.jumps.specs.Stored.{storedEntries}
 use Rattle.records.specs.declared.Record.{Record}
+use Rattle.records.specs.declared.RecordIndex.{RecordIndex}
 use Rattle.records.specs.declared.SwitchEntry.{SwitchEntry}
+use Rattle.records.specs.Records.{recordRoom, entryRoom}
 use Rattle.bytecode.specs.Decoding.{decoding, recordsAfter, entriesAfter}
 use Rattle.station.specs.Station.{decodeAnswer, lookupAnswer, nameAnswer, outputAnswer, partOf, fieldParts, arrayParts, methodParts}
 use Rattle.bundle.specs.Reading.{nextOf}
@@ -58,7 +60,7 @@ AnswerWithTwo {A = A} answer lent other = Pinned (λ (o : A × List ℕ × List 
 
 pub record EntriesPinned : Type 0 where
   -- code
-  pub decode : (code pool records entries : List ℕ) → AnswerWithTwo (decoding code pool records entries) (recordsAfter code pool records entries) (entriesAfter code pool records entries)
+  pub decode : (code pool records entries : List ℕ) → AnswerWithTwo (decoding code pool (recordRoom records) (entryRoom entries)) (recordsAfter code pool records entries) (entriesAfter code pool records entries)
   pub find : (records : List ℕ) (count : ℕ) (offset : CodeOffset) → Answer (lookupOf records count offset)
   pub instruction-at : (code pool : List ℕ) (at : CodeOffset) → Answer (stepOf code pool at)
   pub read-u1 : (code : List ℕ) (at : CodeOffset) → Answer (readOf 1 code at)
@@ -67,7 +69,7 @@ pub record EntriesPinned : Type 0 where
   pub entry-at : (pool : List ℕ) (index : ℕ) → Answer (entryAt pool index)
   pub entry-of-kind : (pool : List ℕ) (kinds : Kinds) (index : ℕ) → Answer (entryOfKind pool kinds index)
   -- the library for C
-  pub nk-decode : (code pool records entries : List ℕ) → AnswerWithTwo (decodeAnswer (decoding code pool records entries)) (recordsAfter code pool records entries) (entriesAfter code pool records entries)
+  pub nk-decode : (code pool records entries : List ℕ) → AnswerWithTwo (decodeAnswer (decoding code pool (recordRoom records) (entryRoom entries))) (recordsAfter code pool records entries) (entriesAfter code pool records entries)
   pub nk-lookup : (records : List ℕ) (count : ℕ) (offset : CodeOffset) → Answer (lookupAnswer (lookupOf records count offset))
   pub nk-class-name : (text : List ℕ) → Answer (nameAnswer (className text))
   pub nk-print-field : (text : List ℕ) (dimensions letter start size : ℕ) (out : List ℕ) → AnswerWith (outputAnswer (printField text (partOf dimensions letter start size) (length out))) (fieldOutput text (partOf dimensions letter start size) out)
@@ -127,7 +129,7 @@ pub record EntriesPinned : Type 0 where
   pub method-identifier : (name descriptor out : List ℕ) → AnswerWith (identifying name descriptor (length out)) (identifierOutput name descriptor out)
   pub clear : (store : List ℕ) → Answer (replicate {A = ℕ} (length store) 0)
   -- the parts of an instruction
-  pub left : (code : List ℕ) (at : ℕ) → Answer (length code - at)
+  pub left : (code : List ℕ) (at : CodeOffset) → Answer (length code - at .0)
   pub allows-tag : (kinds : Kinds) (tag : ℕ) → Answer (allowsTag kinds tag)
   pub formats : Answer numbers
   pub wide-form-of : (byte : ℕ) → Answer (wideFormOf byte)
@@ -145,7 +147,7 @@ pub record EntriesPinned : Type 0 where
   pub entry-count : (low high : ℕ) → Answer (entryCount low high)
   pub entries-of : (i : Instruction) → Answer (entriesOf i)
   pub stored-entries : (stored : Record) → Answer (storedEntries stored)
-  pub record-of : (offset first : ℕ) (i : Instruction) → Answer (recordOf offset first i)
+  pub record-of : (at : CodeOffset) (first : RecordIndex) (i : Instruction) → Answer (recordOf at first i)
   -- the parts of a text
   pub begins-with : (text : List ℕ) (at b : ℕ) → Answer (beginsWith b (drop at text))
   pub base : (dimensions letter : ℕ) → Answer (baseType dimensions letter)

@@ -15,6 +15,7 @@ use Rattle.descriptors.specs.Texts.{fieldText}
 use Rattle.methods.specs.declared.Method.{Method}
 use Rattle.methods.specs.declared.Method.the-variants as method
 use Rattle.methods.specs.Texts.{roomOf, methodText, textStore}
+use Rattle.records.specs.Records.{recordRoom, entryRoom}
 use Rattle.bytecode.specs.declared.Decoded.{Decoded}
 use Rattle.bytecode.specs.declared.Decoded.the-variants as decoded
 use Rattle.bytecode.specs.Decoding.{decoding, recordsAfter, entriesAfter}
@@ -39,7 +40,7 @@ nines n = replicate n 9
 
 abbrev pub outcomeOf : Given → Outcome
 outcomeOf (Given.aCode bytes records entries) =
-    Outcome.decoding-gives (decoding bytes [] (nines records) (nines entries)) (recordsAfter bytes [] (nines records) (nines entries))
+    Outcome.decoding-gives (decoding bytes [] (recordRoom (nines records)) (entryRoom (nines entries))) (recordsAfter bytes [] (nines records) (nines entries))
     (entriesAfter bytes [] (nines records) (nines entries))
 outcomeOf (Given.aMethod text parameters) =
     Outcome.method-gives (methodText (roomOf (nines parameters)) (ascii text)) (textStore (nines parameters) (ascii text))

@@ -1,1 +1,1 @@
-// What joins the crates, on paper alone: `decode` said exactly, every answer pinned down, and the settled examples.
+// What joins the crates, on paper alone: every answer pinned down, and the settled examples.

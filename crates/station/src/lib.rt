@@ -18,6 +18,7 @@ ghost use Rattle.methods.specs.Texts.{roomOf, methodPrefix, methodText, prefixS
 ghost use Rattle.printing.specs.Printing.{printField, printReturn, fieldOutput, returnOutput};
 ghost use Rattle.method_printing.specs.Printing.{printMethod, methodOutput};
 ghost use Rattle.identifier.specs.Identifier.{identifying, identifierOutput};
+ghost use Rattle.records.specs.Records.{recordRoom, entryRoom};
 ghost use Rattle.bytecode.specs.Decoding.{decoding, recordsAfter, entriesAfter};
 ghost use Rattle.lookup.specs.Lookup.{lookupOf};
 ghost use Rattle.station.specs.Station.{acceptance, refusal, decodeAnswer, lookupAnswer, nameAnswer, outputAnswer, partOf, partsOf, noParts, fieldParts, arrayParts, methodParts, HasFew};
@@ -138,7 +139,7 @@ pub extern "C" fn nk_decode(
     records: &mut [u32],
     entries: &mut [u32],
 ) -> Answer
-    ensures answers { λ r. ⌜ r ≡ decodeAnswer (decoding (now (code .entry)) (now (pool .entry)) (now (records .entry)) (now (entries .entry))) ⌝ }
+    ensures answers { λ r. ⌜ r ≡ decodeAnswer (decoding (now (code .entry)) (now (pool .entry)) (recordRoom (now (records .entry))) (entryRoom (now (entries .entry)))) ⌝ }
     ensures stores_records { λ r. ⌜ now (records .exit) ≡ recordsAfter (now (code .entry)) (now (pool .entry)) (now (records .entry)) (now (entries .entry)) ⌝ }
     ensures stores_entries { λ r. ⌜ now (entries .exit) ≡ entriesAfter (now (code .entry)) (now (pool .entry)) (now (records .entry)) (now (entries .entry)) ⌝ }
 {

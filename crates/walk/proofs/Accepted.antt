@@ -19,8 +19,7 @@ use Rattle.instruction.specs.Steps.{stepOf}
 use Rattle.instruction.specs.Pictures.{Follows}
 use Rattle.instruction.specs.Theorems.{StandsAt, entriesOf}
 use Rattle.instruction.proofs.Exactly.{step-exactly, step-within}
-use Rattle.lines.specs.Lines.{Line, Lines, linesOf, listOf}
-use Rattle.lines.specs.Theorems.{Follow}
+use Rattle.lines.specs.Lines.{Line, Lines, linesOf, listOf, Consecutive}
 use Rattle.lines.proofs.Exactly.{lines-exactly}
 use Rattle.records.specs.declared.SwitchEntry.{SwitchEntry}
 use Rattle.switches.specs.Entries.{entriesIn}
@@ -36,9 +35,9 @@ use Rattle.walk.specs.Nodes.{nodeOf, nodesOf}
 use Rattle.walk.specs.Theorems.{AcceptedMeetsDemand3}
 use Rattle.walk.proofs.Any.{any-walk}
 
--- (a) lines that follow one another up to the code's end
+-- (a) consecutive lines up to the code's end
 module _ (code pool : List ℕ) where
-  each-decoded : (ls : Lines) (at : CodeOffset) → Follow code pool at ls → {l : Line} → List·Memᴰ l (listOf ls) → stepOf code pool (l .at) ≡ step.Decoded (l .instruction) (l .next)
+  each-decoded : (ls : Lines) (at : CodeOffset) → Consecutive code pool at ls → {l : Line} → List·Memᴰ l (listOf ls) → stepOf code pool (l .at) ≡ step.Decoded (l .instruction) (l .next)
   unfolding listOf
   each-decoded (Lines.line x rest) at f m =
       ⊎-elim
@@ -47,7 +46,7 @@ module _ (code pool : List ℕ) where
   each-decoded Lines.end at f m = absurd (List·Memᴰ·not-nil m)
   each-decoded (Lines.stop n p) at f m = absurd (List·Memᴰ·not-nil m)
 
-  tiles : (ls : Lines) (at : CodeOffset) (k m k′ m′ : ℕ) → Follow code pool at ls → runFrom k m ls ≡ run.Filled k′ m′ → Tiles (at .0) (map (nodeOf code) (listOf ls)) (length code)
+  tiles : (ls : Lines) (at : CodeOffset) (k m k′ m′ : ℕ) → Consecutive code pool at ls → runFrom k m ls ≡ run.Filled k′ m′ → Tiles (at .0) (map (nodeOf code) (listOf ls)) (length code)
   unfolding listOf runFrom
   tiles (Lines.line l rest) at k m k′ m′ f e =
       let starts : l .at .0 ≡ at .0 = ap (λ (o : CodeOffset). o .0) (f .0) in
@@ -84,12 +83,12 @@ good-walks nodes end tiled good = any-walk nodes end tiled (Along nodes) lands
         record { node = n .0; listed = n .1; starts = a .leads ∙ to .is ∙ ap pos (sym (j .2) ∙ ap (λ (j : Jumps). j .at .0) (sym (n .2))) }
 
 module _ (code pool : List ℕ) where
-  follow : Follow code pool (record { 0 = 0 }) (linesOf code pool)
-  follow = lines-exactly code pool (linesOf code pool) .0 refl
+  consecutive : Consecutive code pool (record { 0 = 0 }) (linesOf code pool)
+  consecutive = lines-exactly code pool (linesOf code pool) .0 refl
 
   module _ (l : Line) (listed : List·Memᴰ l (listOf (linesOf code pool))) where
     decodes : stepOf code pool (l .at) ≡ step.Decoded (l .instruction) (l .next)
-    decodes = each-decoded code pool (linesOf code pool) (record { 0 = 0 }) follow listed
+    decodes = each-decoded code pool (linesOf code pool) (record { 0 = 0 }) consecutive listed
 
     stands : StandsAt code pool (l .at) (l .instruction) (l .next)
     stands = step-exactly code pool (l .at) (l .instruction) (l .next) .0 decodes
@@ -106,9 +105,9 @@ module _ (code pool : List ℕ) where
         (map (λ (e : SwitchEntry). e .jump) (entriesIn code table), ap (jumpWords code) is, ap pos all ∙ number)
 
 pub accepted-meets : AcceptedMeetsDemand3
-accepted-meets code pool records entries k m e =
-    let a = acceptance code pool records entries k m e in
-    let covers = tiles code pool (linesOf code pool) (record { 0 = 0 }) 0 0 k m (follow code pool) (a .filled) in
+accepted-meets code pool record-room entry-room k m e =
+    let a = acceptance code pool record-room entry-room k m e in
+    let covers = tiles code pool (linesOf code pool) (record { 0 = 0 }) 0 0 k m (consecutive code pool) (a .filled) in
     record {
       covers = covers;
       stands = stands code pool;

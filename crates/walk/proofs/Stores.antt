@@ -9,7 +9,7 @@ use lib.Dec.{ltb}
 use lib.ListN.{length}
 use Rattle.laws.specs.Listed.{listed}
 use Rattle.lines.specs.Lines.{linesOf, listOf}
-use Rattle.records.specs.Records.{index, recordAt}
+use Rattle.records.specs.Records.{recordRoom, entryRoom, index, recordAt}
 use Rattle.jumps.specs.Jumps.{Jumps}
 use Rattle.jumps.specs.Stored.{storedJumps}
 use Rattle.bytecode.specs.Decoding.{recordsAfter, entriesAfter}
@@ -52,7 +52,7 @@ module _ (jumps : ℕ → Jumps) (count end : ℕ) where
 pub stores-tell : StoresTell
 stores-tell code pool records entries answer records′ entries′ k m d =
     let accepted = sym (d .answers) ∙ d .accepted in
-    let covers = accepted-meets code pool records entries k m accepted .covers in
+    let covers = accepted-meets code pool (recordRoom records) (entryRoom entries) k m accepted .covers in
     ap₂ (λ (r e : List ℕ). nodesIn r k e (length code)) (d .stores-records) (d .stores-entries)
     ∙ all-told
     (λ (i : ℕ). storedJumps (entriesAfter code pool records entries) (recordAt (recordsAfter code pool records entries) (index i))) k (length code)
@@ -61,6 +61,6 @@ stores-tell code pool records entries answer records′ entries′ k m d =
 
 pub stores-safe : StoresSafe
 stores-safe code pool records entries answer records′ entries′ k m d =
-    let meets = accepted-meets code pool records entries k m (sym (d .answers) ∙ d .accepted) in
+    let meets = accepted-meets code pool (recordRoom records) (entryRoom entries) k m (sym (d .answers) ∙ d .accepted) in
     subst (λ (nodes : List Node). Tiles 0 nodes (length code) × Safe nodes (Along nodes) (length code)) (sym (stores-tell code pool records entries answer records′ entries′ k m d))
     (meets .covers, meets .walks)

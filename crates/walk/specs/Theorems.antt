@@ -11,6 +11,7 @@ use Rattle.ordinary.specs.declared.Instruction.the-variants as instruction
 use Rattle.operands.specs.Signed.{signedOf}
 use Rattle.instruction.specs.Theorems.{StandsAt}
 use Rattle.lines.specs.Lines.{Line, linesOf, listOf}
+use Rattle.records.specs.Records.{recordRoom, entryRoom}
 use Rattle.bytecode.specs.declared.Decoded.{Decoded}
 use Rattle.bytecode.specs.declared.Decoded.the-variants as decoded
 use Rattle.bytecode.specs.Decoding.{jumpWords, decoding, recordsAfter, entriesAfter}
@@ -51,11 +52,11 @@ pub record Demand3 (code pool : List ℕ) : Type 0 where
 -- Every accepted code meets demand 3: proved as `accepted-meets`
 abbrev pub AcceptedMeetsDemand3 : Type 0
 AcceptedMeetsDemand3 =
-    (code pool records entries : List ℕ) (k m : ℕ) → decoding code pool records entries ≡ decoded.Accepted k m → Demand3 code pool
+    (code pool : List ℕ) (record-room entry-room k m : ℕ) → decoding code pool record-room entry-room ≡ decoded.Accepted k m → Demand3 code pool
 
 -- What `decode` promises, where it accepts
 pub record Decodes (code pool records entries : List ℕ) (answer : Decoded) (records′ entries′ : List ℕ) (k m : ℕ) : Type 0 where
-  pub answers : answer ≡ decoding code pool records entries
+  pub answers : answer ≡ decoding code pool (recordRoom records) (entryRoom entries)
   pub stores-records : records′ ≡ recordsAfter code pool records entries
   pub stores-entries : entries′ ≡ entriesAfter code pool records entries
   pub accepted : answer ≡ decoded.Accepted k m

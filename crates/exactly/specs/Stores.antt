@@ -1,4 +1,4 @@
--- Of the stores only their room counts. The proofs are in proofs/Stores.antt.
+-- Of the stores only their room counts, and the more room, the fewer refusals. The proofs are in proofs/Stores.antt.
 use Prim.Native.Nat.{ℕ, _*_, _≤_}
 use mathlib.Core.List.{List}
 use mathlib.Core.Path.{_≡_}
@@ -13,17 +13,18 @@ abbrev pub NotForRoom : Decoded → Type 0
 NotForRoom (decoded.Accepted k m) = Unit {0}
 NotForRoom (decoded.Refused n place second) = (n ≡ 14 → ⊥) × (n ≡ 15 → ⊥)
 
--- Larger stores give the same answer: proved as `larger-stores`
-abbrev pub LargerStores : Type 0
-LargerStores =
-    (code pool records entries records′ entries′ : List ℕ) → recordRoom records ≤ recordRoom records′ → entryRoom entries ≤ entryRoom entries′
-    → NotForRoom (decoding code pool records entries)
-    → decoding code pool records′ entries′ ≡ decoding code pool records entries
+-- More room gives the same answer: proved as `larger-rooms`
+abbrev pub LargerRooms : Type 0
+LargerRooms =
+    (code pool : List ℕ) (record-room entry-room record-room′ entry-room′ : ℕ) → record-room ≤ record-room′ → entry-room ≤ entry-room′
+    → NotForRoom (decoding code pool record-room entry-room)
+    → decoding code pool record-room′ entry-room′ ≡ decoding code pool record-room entry-room
 
 -- and the same used words, whatever stood in the stores: proved as `same-words`
 abbrev pub SameWords : Type 0
 SameWords =
     (code pool records entries records′ entries′ : List ℕ) (k m : ℕ)
-    → decoding code pool records entries ≡ decoded.Accepted k m → decoding code pool records′ entries′ ≡ decoded.Accepted k m
+    → decoding code pool (recordRoom records) (entryRoom entries) ≡ decoded.Accepted k m
+    → decoding code pool (recordRoom records′) (entryRoom entries′) ≡ decoded.Accepted k m
     → (take (k * recordWords) (recordsAfter code pool records′ entries′) ≡ take (k * recordWords) (recordsAfter code pool records entries))
     × (take (m * entryWords) (entriesAfter code pool records′ entries′) ≡ take (m * entryWords) (entriesAfter code pool records entries))

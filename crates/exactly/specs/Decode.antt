@@ -8,9 +8,8 @@ use lib.ListN.{length}
 use Rattle.read.specs.declared.CodeOffset.{CodeOffset}
 use Rattle.instruction.specs.Theorems.{entriesOf}
 use Rattle.lines.specs.Lines.{Line, Lines, linesOf, listOf}
-use Rattle.records.specs.Records.{recordRoom, entryRoom}
 use Rattle.jumps.specs.Jumps.{startsOf}
-use Rattle.jumps.specs.Theorems.{AllLand, FirstFailing}
+use Rattle.jumps.specs.Landing.{AllLand, FirstFailing}
 use Rattle.bytecode.specs.declared.Decoded.the-variants as decoded
 use Rattle.bytecode.specs.Decoding.{codeLimit, poolLimit, jumpWords, jumpsOf, decoding}
 
@@ -21,20 +20,20 @@ Ends Lines.end = Unit {0}
 Ends (Lines.stop n p) = ⊥
 
 -- how many switch entries lines have
-unfoldable pub entriesIn : List Line → ℕ
-entriesIn [] = 0
-entriesIn (l ∷ lines) = entriesOf (l .instruction) + entriesIn lines
+unfoldable pub totalEntries : List Line → ℕ
+totalEntries [] = 0
+totalEntries (l ∷ lines) = entriesOf (l .instruction) + totalEntries lines
 
 -- All is decoded: both lengths are within their limits, the code lists, and there is room for its k instructions and m
 -- entries
-pub record AllDecoded (code pool records entries : List ℕ) (k m : ℕ) : Type 0 where
+pub record AllDecoded (code pool : List ℕ) (record-room entry-room k m : ℕ) : Type 0 where
   pub short-code : length code ≤ codeLimit
   pub short-pool : length pool ≤ poolLimit
   pub lists : Ends (linesOf code pool)
   pub instructions : k ≡ length (listOf (linesOf code pool))
-  pub switch-entries : m ≡ entriesIn (listOf (linesOf code pool))
-  pub record-room : k ≤ recordRoom records
-  pub entry-room : m ≤ entryRoom entries
+  pub switch-entries : m ≡ totalEntries (listOf (linesOf code pool))
+  pub records-fit : k ≤ record-room
+  pub entries-fit : m ≤ entry-room
 
 -- Every jump of every instruction leads to the start of one
 abbrev pub JumpsLand : List ℕ → List ℕ → Type 0
@@ -44,13 +43,13 @@ JumpsLand code pool =
 -- Accepted exactly when all is decoded and all jumps land: proved as `accepted-exactly`
 abbrev pub AcceptedExactly : Type 0
 AcceptedExactly =
-    (code pool records entries : List ℕ) (k m : ℕ)
-    → (decoding code pool records entries ≡ decoded.Accepted k m) ↔ (AllDecoded code pool records entries k m × JumpsLand code pool)
+    (code pool : List ℕ) (record-room entry-room k m : ℕ)
+    → (decoding code pool record-room entry-room ≡ decoded.Accepted k m) ↔ (AllDecoded code pool record-room entry-room k m × JumpsLand code pool)
 
 -- 12 and 13 exactly when all is decoded and this is the first jump that fails, with that number, place and second number:
 -- proved as `jump-refused-exactly`
 abbrev pub JumpRefusedExactly : Type 0
 JumpRefusedExactly =
-    (code pool records entries : List ℕ) (n : ℕ) (place : CodeOffset) (second : ℕ) → (n ≡ 12) ⊎ (n ≡ 13)
-    → (decoding code pool records entries ≡ decoded.Refused n place second)
-    ↔ ((k : ℕ) × (m : ℕ) × AllDecoded code pool records entries k m × FirstFailing (jumpsOf code (linesOf code pool)) n place second)
+    (code pool : List ℕ) (record-room entry-room n : ℕ) (place : CodeOffset) (second : ℕ) → (n ≡ 12) ⊎ (n ≡ 13)
+    → (decoding code pool record-room entry-room ≡ decoded.Refused n place second)
+    ↔ ((k : ℕ) × (m : ℕ) × AllDecoded code pool record-room entry-room k m × FirstFailing (jumpsOf code (linesOf code pool)) n place second)
