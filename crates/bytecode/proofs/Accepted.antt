@@ -9,7 +9,7 @@ use borrow.Author.Tests.{leb-true}
 use lib.Dec.{leb}
 use lib.ListN.{length}
 use Rattle.read.specs.declared.CodeOffset.{CodeOffset}
-use Rattle.instruction.specs.Theorems.{entriesOf}
+use Rattle.instruction.specs.Entries.{entriesOf}
 use Rattle.lines.specs.Lines.{Lines, linesOf}
 use Rattle.records.specs.Records.{recordRoom, entryRoom}
 use Rattle.jumps.specs.declared.Checked.{Checked}

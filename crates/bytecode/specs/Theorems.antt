@@ -5,7 +5,7 @@ use mathlib.Core.List.{List, [], _∷_, _++_}
 use mathlib.Core.Path.{_≡_}
 use lib.ListN.{drop}
 use lib.Seq.{sets}
-use Rattle.instruction.specs.Theorems.{entriesOf}
+use Rattle.instruction.specs.Entries.{entriesOf}
 use Rattle.lines.specs.Lines.{Line, Lines, linesOf, listOf}
 use Rattle.records.specs.Records.{recordWords, entryWords, wordsOf, allEntryWords}
 use Rattle.filling.specs.Filling.{entriesIn, recordOf}

@@ -1,5 +1,6 @@
 pub mod Steps
 pub mod Names
 pub mod Pictures
+pub mod Entries
 pub mod Theorems
 pub mod Examples
