@@ -1,8 +1,8 @@
 use mathlib.Core.Path.{refl}
 use Rattle.read.specs.Reads.{bigEndian, readOf}
 use Rattle.opcodes.specs.Formats.{formats, formatOf}
-use Rattle.opcodes.specs.Kinds.{kindOf}
-use Rattle.opcodes.specs.Wide.{wideFormOf}
+use Rattle.opcodes.specs.InstructionKinds.{instructionKinds, kindOf}
+use Rattle.opcodes.specs.Wide.{wideForms, wideFormOf}
 use Rattle.operands.specs.Signed.{signedIn, extended}
 use Rattle.operands.specs.Checks.{signedRead, unlessFault}
 use Rattle.ordinary.specs.Ordinary.{operandsFrom}
@@ -17,7 +17,7 @@ use Rattle.bytecode.specs.Decoding.{fitting, runFrom, recordsFrom, entri
 use Rattle.bytecode.specs.Examples.{CodesCompute, LimitsCompute, MarksCompute}
 
 pub codes-compute : CodesCompute
-unfolding bigEndian readOf formats formatOf kindOf wideFormOf signedIn extended signedRead unlessFault operandsFrom wordsFrom countOf stepOf linesFrom listOf allEntryWords tableFrom pairsFrom jumpCheck wordsCheck allCheck hasJump fitting runFrom recordsFrom entriesFrom jumpWords limited decoding storeAfter
+unfolding bigEndian readOf formats formatOf instructionKinds kindOf wideForms wideFormOf signedIn extended signedRead unlessFault operandsFrom wordsFrom countOf stepOf linesFrom listOf allEntryWords tableFrom pairsFrom jumpCheck wordsCheck allCheck hasJump fitting runFrom recordsFrom entriesFrom jumpWords limited decoding storeAfter
 codes-compute = refl
 
 pub limits-compute : LimitsCompute

@@ -10,7 +10,7 @@ use Rattle.read.specs.declared.CodeOffset.{CodeOffset}
 use Rattle.ordinary.specs.declared.Instruction.{Instruction}
 use Rattle.ordinary.specs.declared.Step.the-variants as step
 use Rattle.instruction.specs.Steps.{stepOf}
-use Rattle.instruction.specs.Theorems.{entriesOf}
+use Rattle.instruction.specs.Entries.{entriesOf}
 use Rattle.instruction.proofs.Exactly.{step-within}
 use Rattle.lines.specs.Lines.{Line, Lines, linesFrom}
 use Rattle.lines.proofs.Laws.{lines-more, lines-stop, lines-end}

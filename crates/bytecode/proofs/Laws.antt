@@ -9,7 +9,7 @@ use lib.Dec.{leb}
 use lib.ListN.{length}
 use lib.Seq.{length-sets}
 use Rattle.read.specs.declared.CodeOffset.{CodeOffset}
-use Rattle.instruction.specs.Theorems.{entriesOf}
+use Rattle.instruction.specs.Entries.{entriesOf}
 use Rattle.lines.specs.Lines.{Line, Lines, listOf}
 use Rattle.records.specs.Records.{recordWords, entryWords, index, wordsOf, recordAt, entryAt, allEntryWords}
 use Rattle.records.proofs.Reading.{record-before, entry-before}

@@ -6,7 +6,7 @@ use native.Mathlib.Nat.{add-zero}
 use native.Mathlib.Omega.{arith}
 use lib.ListN.{length, set, drop, length-append}
 use lib.Seq.{sets, sets-eq}
-use Rattle.instruction.specs.Theorems.{entriesOf}
+use Rattle.instruction.specs.Entries.{entriesOf}
 use Rattle.lines.specs.Lines.{Lines, linesOf, listOf}
 use Rattle.records.specs.declared.SwitchEntry.{SwitchEntry}
 use Rattle.records.specs.Records.{recordWords, entryWords, recordRoom, entryRoom, index, wordsOf, allEntryWords}

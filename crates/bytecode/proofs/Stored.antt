@@ -17,7 +17,7 @@ use Rattle.ordinary.specs.declared.Instruction.the-variants as instruction
 use Rattle.ordinary.specs.declared.Step.the-variants as step
 use Rattle.switches.specs.Switches.{entryCount}
 use Rattle.instruction.specs.Steps.{stepOf}
-use Rattle.instruction.specs.Theorems.{entriesOf}
+use Rattle.instruction.specs.Entries.{entriesOf}
 use Rattle.instruction.proofs.Exactly.{step-within}
 use Rattle.lines.specs.Lines.{Line, Lines, linesOf, listOf, Consecutive}
 use Rattle.lines.proofs.Exactly.{lines-exactly}

@@ -8,7 +8,7 @@ use lib.ListN.{length, take, replicate}
 use lib.Seq.{sets}
 use Rattle.ordinary.specs.declared.Instruction.{Instruction}
 use Rattle.ordinary.specs.declared.Instruction.the-variants as instruction
-use Rattle.instruction.specs.Theorems.{entriesOf}
+use Rattle.instruction.specs.Entries.{entriesOf}
 use Rattle.lines.specs.Lines.{Line, Lines, linesOf, listOf}
 use Rattle.records.specs.declared.SwitchEntry.{SwitchEntry}
 use Rattle.records.specs.Records.{recordWords, entryWords, recordRoom, entryRoom, index, wordsOf, allEntryWords}

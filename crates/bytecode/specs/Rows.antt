@@ -1,7 +1,7 @@
 -- What lines leave in the two stores, in a row.
 use Prim.Native.Nat.{ℕ, _+_}
 use mathlib.Core.List.{List, [], _∷_, _++_}
-use Rattle.instruction.specs.Theorems.{entriesOf}
+use Rattle.instruction.specs.Entries.{entriesOf}
 use Rattle.lines.specs.Lines.{Line}
 use Rattle.records.specs.Records.{index, wordsOf, allEntryWords}
 use Rattle.switches.specs.Entries.{entriesIn}

@@ -13,7 +13,7 @@ ghost use Prim.Native.Nat.{_+_, _*_, _^_, _≤_, _<_};
 ghost use lib.ListN.{length};
 ghost use lib.Seq.{sets};
 ghost use Rattle.records.specs.Records.{recordWords, entryWords, recordRoom, entryRoom, wordsOf, allEntryWords};
-ghost use Rattle.instruction.specs.Theorems.{entriesOf};
+ghost use Rattle.instruction.specs.Entries.{entriesOf};
 ghost use Rattle.switches.specs.Entries.{entriesIn, EntriesInside};
 ghost use Rattle.filling.specs.Filling.{recordOf};
 ghost use Rattle.bytecode.specs.Decoding.{codeLimit, fitted, runFrom, recordsFrom, entriesFrom, decoding, recordsAfter, entriesAfter, storeAfter};

@@ -6,7 +6,7 @@ use native.Mathlib.Omega.{arith}
 use lib.ListN.{length, take, drop}
 use lib.Seq.{take-at}
 use Rattle.read.specs.declared.CodeOffset.{CodeOffset}
-use Rattle.instruction.specs.Theorems.{entriesOf}
+use Rattle.instruction.specs.Entries.{entriesOf}
 use Rattle.lines.specs.Lines.{Lines, linesOf, listOf}
 use Rattle.records.specs.Records.{recordWords, entryWords, recordRoom, entryRoom}
 use Rattle.jumps.specs.declared.Checked.{Checked}

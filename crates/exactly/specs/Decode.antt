@@ -6,7 +6,7 @@ use mathlib.Core.Logic.{_↔_, _⊎_}
 use mathlib.Core.Path.{_≡_}
 use lib.ListN.{length}
 use Rattle.read.specs.declared.CodeOffset.{CodeOffset}
-use Rattle.instruction.specs.Theorems.{entriesOf}
+use Rattle.instruction.specs.Entries.{entriesOf}
 use Rattle.lines.specs.Lines.{Line, Lines, linesOf, listOf}
 use Rattle.jumps.specs.Jumps.{startsOf}
 use Rattle.jumps.specs.Landing.{AllLand, FirstFailing}

@@ -1,17 +1,20 @@
 -- What a decoded instruction tells: the bounds of a table count its entries, and only a switch has the kind of a switch.
-use Prim.Native.Nat.{ℕ, _≤_, _<_}
-use mathlib.Core.Bool.{Bool, true, false, _&&_, and-eq-true-iff}
+use Prim.Native.Nat.{ℕ, _≤_, _<_, zero-le}
+use mathlib.Core.Bool.{Bool, true, false}
 use mathlib.Core.List.{List}
 use mathlib.Core.Path.{_≡_, refl, sym, ap, _∙_, subst}
 use native.Mathlib.Omega.{arith}
-use borrow.Author.Tests.{leb-true}
+use borrow.Author.Tests.{leb-true, leb-false, eqb-true, eq-eqb}
 use lib.Dec.{eqb, leb}
+use lib.ListN.{List·getD-eq-default}
+use Rattle.laws.specs.Listed.{listed}
+use Rattle.laws.proofs.Listed.{listed-same}
 use Rattle.read.specs.declared.CodeOffset.{CodeOffset}
 use Rattle.read.specs.Reads.{after}
 use Rattle.opcodes.specs.Formats.{formats, formatOf}
-use Rattle.opcodes.specs.Kinds.{kindOf}
-use Rattle.opcodes.specs.Wide.{wideFormOf}
-use Rattle.opcodes.specs.Operands.{Operand, Layout, layoutOf, wideLayoutOf}
+use Rattle.opcodes.specs.InstructionKinds.{instructionKinds, kindOf}
+use Rattle.opcodes.specs.Wide.{wideForms, wideFormOf}
+use Rattle.opcodes.specs.Operands.{Operand, Layout, WideLayout, layoutOf, wideLayoutOf}
 use Rattle.ordinary.specs.declared.Instruction.{Instruction}
 use Rattle.ordinary.specs.declared.Instruction.the-variants as instruction
 use Rattle.ordinary.specs.declared.Step.the-variants as step
@@ -22,29 +25,40 @@ use Rattle.instruction.specs.Pictures.{Follows}
 use Rattle.instruction.proofs.Exactly.{step-exactly}
 use Rattle.filling.specs.Theorems.{TableCounted, OrdinaryKind}
 
--- a kind from 0xaa on is the byte itself, for each test of `kindOf` gives a kind below
-unless : (t : Bool) (shared kind byte : ℕ) → (t ≡ true → shared < 0xaa) → (0xaa ≤ kind → kind ≡ byte) → 0xaa ≤ elim t [ true ↦ shared | false ↦ kind ] → elim t [ true ↦ shared | false ↦ kind ] ≡ byte
-unless true shared kind byte small same h = absurd (let below : shared < 0xaa = small refl in omega arith)
-unless false shared kind byte small same h = same h
+-- of all bytes only that of a switch has its kind
+abbrev OnlyItself : ℕ → Type 0
+OnlyItself kind = listed (λ (byte : ℕ). eqb (kindOf byte) kind) 0 256 ≡ listed (λ (byte : ℕ). eqb byte kind) 0 256
 
-at-most : (low high n : ℕ) → (leb low n && leb n high) ≡ true → n ≤ high
-at-most low high n h = leb-true n high (and-eq-true-iff (leb low n) (leb n high) .0 h .1)
+table-itself : OnlyItself 0xaa
+unfolding listed instructionKinds kindOf
+table-itself = refl
 
-own-byte : (byte : ℕ) → 0xaa ≤ kindOf byte → kindOf byte ≡ byte
-unfolding kindOf
-own-byte byte =
-    unless (leb 0x1a byte && leb byte 0x2d) _ _ byte (λ t. let top = at-most 0x1a 0x2d byte t in omega arith)
-    (unless (leb 0x3b byte && leb byte 0x4e) _ _ byte (λ t. let top = at-most 0x3b 0x4e byte t in omega arith)
-    (unless (eqb byte 0xc8) 0xa7 _ byte (λ t. omega arith) (unless (eqb byte 0xc9) 0xa8 byte byte (λ t. omega arith) (λ h. refl))))
+lookup-itself : OnlyItself 0xab
+unfolding listed instructionKinds kindOf
+lookup-itself = refl
+
+past-kinds : (byte : ℕ) → 256 ≤ byte → kindOf byte ≡ 0
+unfolding instructionKinds kindOf
+past-kinds byte h = List·getD-eq-default instructionKinds 0 h
+
+own-byte : (kind byte : ℕ) → 0 < kind → OnlyItself kind → kindOf byte ≡ kind → byte ≡ kind
+own-byte kind byte some all e = go (leb 256 byte) refl
+  where
+    go : (t : Bool) → leb 256 byte ≡ t → byte ≡ kind
+    go true q = absurd (let none = past-kinds byte (leb-true _ _ q) in omega arith)
+    go false q = eqb-true byte kind (sym (listed-same (λ (b : ℕ). eqb (kindOf b) kind) (λ (b : ℕ). eqb b kind) 256 0 all byte zero-le (let small = leb-false 256 byte q in omega arith)) ∙ eq-eqb (kindOf byte) kind e)
 
 -- so what has not the byte of a switch has not its kind
 abbrev NoSwitch : ℕ → Type 0
 NoSwitch kind = (kind ≡ 0xaa → ⊥) × (kind ≡ 0xab → ⊥)
 
 same-kind : (byte : ℕ) → NoSwitch byte → NoSwitch (kindOf byte)
-same-kind byte h = (λ e. h .0 (sym (own-byte byte (omega arith)) ∙ e), λ e. h .1 (sym (own-byte byte (omega arith)) ∙ e))
+same-kind byte h = (λ e. h .0 (own-byte 0xaa byte (omega arith) table-itself e), λ e. h .1 (own-byte 0xab byte (omega arith) lookup-itself e))
 
 -- the byte of a switch has no operands, alone or after wide
+with-operands : {A : Type 0} (Bare : A → Type 0) (lay : ℕ → A) → Bare (lay 0xaa) → Bare (lay 0xab) → (byte : ℕ) (a : A) → (Bare a → ⊥) → lay byte ≡ a → NoSwitch byte
+with-operands Bare lay table lookup byte a full e = (λ is. full (subst Bare (ap lay (sym is) ∙ e) table), λ is. full (subst Bare (ap lay (sym is) ∙ e) lookup))
+
 abbrev Bare : Layout → Type 0
 Bare (Layout.operands os) = ⊥
 Bare Layout.wide = Unit {0}
@@ -52,16 +66,17 @@ Bare Layout.tableSwitch = Unit {0}
 Bare Layout.lookupSwitch = Unit {0}
 Bare Layout.none = Unit {0}
 
-with-operands : (lay : ℕ → Layout) → Bare (lay 0xaa) → Bare (lay 0xab) → (byte : ℕ) (os : List Operand) → lay byte ≡ Layout.operands os → NoSwitch byte
-with-operands lay table lookup byte os e = (λ is. subst Bare (ap lay (sym is) ∙ e) table, λ is. subst Bare (ap lay (sym is) ∙ e) lookup)
-
 alone : (byte : ℕ) (os : List Operand) → layoutOf (formatOf byte) ≡ Layout.operands os → NoSwitch byte
 unfolding formats formatOf
-alone = with-operands (λ byte. layoutOf (formatOf byte)) tt tt
+alone byte os e = with-operands Bare (λ byte. layoutOf (formatOf byte)) tt tt byte (Layout.operands os) (λ b. b) e
 
-after-wide : (byte : ℕ) (os : List Operand) → wideLayoutOf (wideFormOf byte) ≡ Layout.operands os → NoSwitch byte
-unfolding wideFormOf
-after-wide = with-operands (λ byte. wideLayoutOf (wideFormOf byte)) tt tt
+abbrev WideBare : WideLayout → Type 0
+WideBare (WideLayout.operands os) = ⊥
+WideBare WideLayout.none = Unit {0}
+
+after-wide : (byte : ℕ) (os : List Operand) → wideLayoutOf (wideFormOf byte) ≡ WideLayout.operands os → NoSwitch byte
+unfolding wideForms wideFormOf
+after-wide byte os e = with-operands WideBare (λ byte. wideLayoutOf (wideFormOf byte)) tt tt byte (WideLayout.operands os) (λ b. b) e
 
 -- what an instruction says by its picture: an ordinary one has another kind, and the bounds of a table count its entries
 abbrev Told : Instruction → Type 0

@@ -10,7 +10,7 @@ use Rattle.ordinary.specs.declared.Instruction.the-variants as instruction
 use Rattle.ordinary.specs.declared.Step.the-variants as step
 use Rattle.switches.specs.Switches.{entryCount}
 use Rattle.instruction.specs.Steps.{stepOf}
-use Rattle.instruction.specs.Theorems.{entriesOf}
+use Rattle.instruction.specs.Entries.{entriesOf}
 use Rattle.switches.specs.Entries.{entriesIn, EntriesInside}
 
 -- An instruction has as many entries as it says: proved as `all-entries`

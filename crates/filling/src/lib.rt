@@ -12,7 +12,7 @@ ghost use Prim.Native.Nat.{_+_, _*_, _^_, _≤_, _<_};
 ghost use lib.ListN.{length};
 ghost use lib.Seq.{sets};
 ghost use Rattle.records.specs.Records.{entryWords, entryRoom, allEntryWords};
-ghost use Rattle.instruction.specs.Theorems.{entriesOf};
+ghost use Rattle.instruction.specs.Entries.{entriesOf};
 ghost use Rattle.switches.specs.Entries.{tableFrom, pairsFrom, entriesIn, EntriesInside};
 ghost use Rattle.filling.specs.Filling.{recordOf};
 

@@ -5,15 +5,14 @@ use mathlib.Core.Path.{_≡_, refl, sym, ap, _∙_, subst}
 use Rattle.read.specs.declared.CodeOffset.{CodeOffset}
 use Rattle.read.specs.Reads.{after}
 use Rattle.opcodes.specs.Formats.{formatOf}
-use Rattle.opcodes.specs.Kinds.{kindOf}
+use Rattle.opcodes.specs.InstructionKinds.{kindOf}
 use Rattle.opcodes.specs.Operands.{Layout, layoutOf}
-use Rattle.operands.specs.Theorems.{Stand}
+use Rattle.operands.specs.Pictures.{Stand}
 use Rattle.operands.proofs.Standing.{stand-part}
 use Rattle.ordinary.specs.declared.Instruction.{Instruction}
 use Rattle.switches.specs.Entries.{entriesIn}
 use Rattle.switches.proofs.Exactly.{table-entries-drawn, lookup-entries-drawn}
-use Rattle.instruction.specs.Pictures.{Follows}
-use Rattle.instruction.specs.Theorems.{StandsAt}
+use Rattle.instruction.specs.Pictures.{Follows, StandsAt}
 use Rattle.instruction.specs.Drawn.{entriesAfter, drawnEntries, EntriesDrawn}
 use Rattle.instruction.proofs.Exactly.{step-exactly}
 

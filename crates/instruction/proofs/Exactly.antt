@@ -9,9 +9,9 @@ use Rattle.read.specs.declared.CodeOffset.{CodeOffset}
 use Rattle.read.specs.declared.Read.{Read}
 use Rattle.read.specs.Reads.{after, readOf}
 use Rattle.opcodes.specs.Formats.{formatOf}
-use Rattle.opcodes.specs.Kinds.{kindOf}
+use Rattle.opcodes.specs.InstructionKinds.{kindOf}
 use Rattle.opcodes.specs.Operands.{Layout, layoutOf}
-use Rattle.operands.specs.Theorems.{Stand}
+use Rattle.operands.specs.Pictures.{Stand}
 use Rattle.operands.proofs.Exactly.{byte-there, byte-read}
 use Rattle.operands.proofs.Standing.{stand-join, stand-part}
 use Rattle.ordinary.specs.declared.Instruction.{Instruction}
@@ -20,8 +20,9 @@ use Rattle.ordinary.specs.Ordinary.{thenRead}
 use Rattle.ordinary.proofs.Exactly.{clash, then-found, operands-exactly, wide-exactly, further}
 use Rattle.switches.proofs.Exactly.{table-exactly, lookup-exactly, table-length, lookup-length}
 use Rattle.instruction.specs.Steps.{laidOut, stepOf}
-use Rattle.instruction.specs.Pictures.{Follows, NamedAfter}
-use Rattle.instruction.specs.Theorems.{StandsAt, StepExactly, entriesOf, EntriesLast, Within, StepWithin}
+use Rattle.instruction.specs.Pictures.{Follows, NamedAfter, StandsAt}
+use Rattle.instruction.specs.Entries.{entriesOf, EntriesLast, Within}
+use Rattle.instruction.specs.Theorems.{StepExactly, StepWithin}
 
 -- what follows an opcode
 module _ (code pool : List ℕ) (kind : ℕ) (place : CodeOffset) (at : CodeOffset) (h : at .0 ≤ length code) (i : Instruction) (next : CodeOffset) where

@@ -16,7 +16,7 @@ use Rattle.opcodes.specs.declared.Follow.the-variants as follow
 use Rattle.opcodes.specs.declared.WideForm.{WideForm}
 use Rattle.opcodes.specs.declared.WideForm.the-variants as wide
 use Rattle.opcodes.specs.Formats.{formatOf}
-use Rattle.opcodes.specs.Kinds.{kindOf}
+use Rattle.opcodes.specs.InstructionKinds.{kindOf}
 use Rattle.opcodes.specs.Operands.{Meaning, Operand, layoutOf, followOf, wideLayoutOf}
 use Rattle.opcodes.specs.Wide.{wideFormOf}
 use Rattle.operands.specs.Checks.{indexRead}
@@ -43,7 +43,7 @@ module _ (code pool : List ℕ) where
   unfolding operandsFrom
   wide-alone at = go (readOf 1 code at)
     where
-      laid : (byte : ℕ) (next : CodeOffset) (form : WideForm) → ordinary.laidOut code [] byte at next (wideLayoutOf form) ≡ ordinary.laidOut code pool byte at next (wideLayoutOf form)
+      laid : (byte : ℕ) (next : CodeOffset) (form : WideForm) → ordinary.widenedBy code [] byte at next (wideLayoutOf form) ≡ ordinary.widenedBy code pool byte at next (wideLayoutOf form)
       laid byte next wide.Local = refl
       laid byte next wide.Increment = refl
       laid byte next wide.NoInstruction = refl

@@ -15,7 +15,7 @@ use Rattle.read.specs.Reads.{after, readOf}
 use Rattle.pool.specs.declared.Entry.{Entry}
 use Rattle.pool.specs.Entries.{entryAt, ofKind}
 use Rattle.opcodes.specs.Formats.{formatOf}
-use Rattle.opcodes.specs.Kinds.{kindOf}
+use Rattle.opcodes.specs.InstructionKinds.{kindOf}
 use Rattle.opcodes.specs.Operands.{Meaning, Operand, Layout, layoutOf}
 use Rattle.operands.specs.Checks.{unlessFault, faultIn, meant, operandAt}
 use Rattle.operands.proofs.Exactly.{finds, operand-exactly}

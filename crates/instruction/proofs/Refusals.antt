@@ -20,8 +20,8 @@ use Rattle.pool.specs.declared.Entry.the-variants as entry
 use Rattle.pool.specs.Entries.{entryOfKind}
 use Rattle.pool.proofs.Exactly.{two-refusals}
 use Rattle.opcodes.specs.Formats.{formatOf}
-use Rattle.opcodes.specs.Kinds.{kindOf}
-use Rattle.opcodes.specs.Operands.{Meaning, Operand, Layout, layoutOf, wideLayoutOf}
+use Rattle.opcodes.specs.InstructionKinds.{kindOf}
+use Rattle.opcodes.specs.Operands.{Meaning, Operand, Layout, layoutOf, WideLayout, wideLayoutOf}
 use Rattle.opcodes.specs.Wide.{wideFormOf}
 use Rattle.operands.specs.Signed.{signedOf}
 use Rattle.operands.specs.Checks.{signedRead, unlessFault, indexFault, zeroFault, isArrayTag, arrayTagFault, meant, operandAt}
@@ -137,15 +137,9 @@ module _ (code pool : List ℕ) where
   wide-number : (at : CodeOffset) → StepNumber (wideStep code pool at)
   wide-number at = then-number (readOf 1 code at) _ (read-number code 1 at) (λ byte next. laid byte next (wideLayoutOf (wideFormOf byte)))
     where
-      five : Number 5
-      five = (omega arith, omega arith)
-
-      laid : (byte : ℕ) (next : CodeOffset) (l : Layout) → StepNumber (ordinary.laidOut code pool byte at next l)
-      laid byte next (Layout.operands os) = operands-number byte [] os next
-      laid byte next Layout.wide = five
-      laid byte next Layout.tableSwitch = five
-      laid byte next Layout.lookupSwitch = five
-      laid byte next Layout.none = five
+      laid : (byte : ℕ) (next : CodeOffset) (l : WideLayout) → StepNumber (ordinary.widenedBy code pool byte at next l)
+      laid byte next (WideLayout.operands os) = operands-number byte [] os next
+      laid byte next WideLayout.none = (omega arith, omega arith)
 
   laid-number : (kind : ℕ) (place at : CodeOffset) (l : Layout) → StepNumber (laidOut code pool kind place at l)
   laid-number kind place at (Layout.operands os) = operands-number kind [] os at

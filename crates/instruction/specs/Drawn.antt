@@ -7,15 +7,14 @@ use mathlib.Core.Path.{_≡_}
 use Rattle.read.specs.declared.CodeOffset.{CodeOffset}
 use Rattle.read.specs.Reads.{after}
 use Rattle.opcodes.specs.Formats.{formatOf}
-use Rattle.opcodes.specs.Kinds.{kindOf}
+use Rattle.opcodes.specs.InstructionKinds.{kindOf}
 use Rattle.opcodes.specs.Operands.{Layout, layoutOf}
 use Rattle.records.specs.declared.SwitchEntry.{SwitchEntry}
 use Rattle.ordinary.specs.declared.Instruction.{Instruction}
 use Rattle.ordinary.specs.declared.Step.the-variants as step
 use Rattle.switches.specs.Entries.{entriesIn}
 use Rattle.instruction.specs.Steps.{stepOf}
-use Rattle.instruction.specs.Pictures.{Follows, Picture}
-use Rattle.instruction.specs.Theorems.{StandsAt}
+use Rattle.instruction.specs.Pictures.{Follows, Picture, StandsAt}
 
 -- only a switch has any
 abbrev pub entriesAfter : (kind : ℕ) (at : CodeOffset) (l : Layout) (i : Instruction) (bytes : List ℕ) → Follows kind at l i bytes → List SwitchEntry

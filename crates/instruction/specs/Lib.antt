@@ -1,6 +1,7 @@
 pub mod Steps
 pub mod Names
 pub mod Pictures
+pub mod Entries
 pub mod Theorems
 pub mod Examples
 pub mod Drawn

@@ -3,11 +3,13 @@
 use Prim.Native.Nat.{ℕ}
 use mathlib.Core.List.{List, _∷_}
 use mathlib.Core.Path.{_≡_}
+use lib.ListN.{length}
 use Rattle.read.specs.declared.CodeOffset.{CodeOffset}
 use Rattle.read.specs.Reads.{after}
 use Rattle.opcodes.specs.Formats.{formatOf}
-use Rattle.opcodes.specs.Kinds.{kindOf}
+use Rattle.opcodes.specs.InstructionKinds.{kindOf}
 use Rattle.opcodes.specs.Operands.{Layout, layoutOf}
+use Rattle.operands.specs.Pictures.{Stand}
 use Rattle.ordinary.specs.declared.Instruction.{Instruction}
 use Rattle.ordinary.specs.Pictures.{NamedAll, OrdinaryPicture, WidePicture}
 use Rattle.switches.specs.Pictures.{TablePicture, LookupPicture}
@@ -29,7 +31,7 @@ pub record Picture (at : CodeOffset) (i : Instruction) (bytes : List ℕ) : Type
 
 -- the pool entries that what follows names have their kinds; only ordinary instructions name any
 abbrev pub NamedAfter : List ℕ → (kind : ℕ) (at : CodeOffset) (l : Layout) (i : Instruction) (bytes : List ℕ) → Follows kind at l i bytes → Type 0
-NamedAfter pool kind at (Layout.operands os) i bytes p = NamedAll pool os (p .values)
+NamedAfter pool kind at (Layout.operands os) i bytes p = NamedAll pool (p .drawn)
 NamedAfter pool kind at Layout.wide i bytes p = Unit {0}
 NamedAfter pool kind at Layout.tableSwitch i bytes p = Unit {0}
 NamedAfter pool kind at Layout.lookupSwitch i bytes p = Unit {0}
@@ -37,3 +39,12 @@ NamedAfter pool kind at Layout.none i bytes p = Unit {0}
 
 abbrev pub NamedIn : List ℕ → {at : CodeOffset} {i : Instruction} {bytes : List ℕ} → Picture at i bytes → Type 0
 NamedIn pool {at} {i} {bytes} p = NamedAfter pool (kindOf (p .opcode)) (after 1 at) (layoutOf (formatOf (p .opcode))) i (p .rest) (p .follows)
+
+-- the code at the offset starts with the instruction's bytes, as many as to the next offset, and the pool entries that
+-- it names have their kinds
+pub record StandsAt (code pool : List ℕ) (at : CodeOffset) (i : Instruction) (next : CodeOffset) : Type 0 where
+  pub bytes : List ℕ
+  pub picture : Picture at i bytes
+  pub named : NamedIn pool picture
+  pub stand : Stand code at bytes
+  pub place : next ≡ after (length bytes) at

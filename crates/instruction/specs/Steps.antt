@@ -5,7 +5,7 @@ use mathlib.Core.List.{List, []}
 use Rattle.read.specs.declared.CodeOffset.{CodeOffset}
 use Rattle.read.specs.Reads.{readOf}
 use Rattle.opcodes.specs.Formats.{formatOf}
-use Rattle.opcodes.specs.Kinds.{kindOf}
+use Rattle.opcodes.specs.InstructionKinds.{kindOf}
 use Rattle.opcodes.specs.Operands.{Layout, layoutOf}
 use Rattle.ordinary.specs.declared.Step.{Step}
 use Rattle.ordinary.specs.declared.Step.the-variants as step

@@ -15,7 +15,7 @@ use Rattle.laws.proofs.Bytes.{one-of}
 use Rattle.laws.proofs.Listed.{listed-same}
 use Rattle.read.specs.declared.CodeOffset.{CodeOffset}
 use Rattle.opcodes.specs.Formats.{formats, formatOf}
-use Rattle.opcodes.specs.Kinds.{kindOf}
+use Rattle.opcodes.specs.InstructionKinds.{instructionKinds, kindOf}
 use Rattle.jumps.specs.declared.Checked.the-variants as checked
 use Rattle.jumps.specs.Jumps.{Jumps, placed, targetOf, jumpCheck, jumpsCheck, startsOf, check}
 use Rattle.jumps.specs.Stored.{hasJump}
@@ -146,7 +146,7 @@ abbrev byFormat : ℕ → Bool
 byFormat byte = jumpsBy (formatOf byte)
 
 all-bytes : listed byKind 0 256 ≡ listed byFormat 0 256
-unfolding listed formats formatOf kindOf hasJump
+unfolding listed formats formatOf instructionKinds kindOf hasJump
 all-bytes = refl
 
 pub jump-kinds : JumpKinds

@@ -15,7 +15,7 @@ use Rattle.laws.proofs.Listed.{in-listed}
 use Rattle.opcodes.specs.declared.Format.{Format}
 use Rattle.opcodes.specs.declared.Format.the-variants as format
 use Rattle.opcodes.specs.Formats.{formats, formatOf}
-use Rattle.opcodes.specs.Kinds.{kindOf}
+use Rattle.opcodes.specs.InstructionKinds.{instructionKinds, kindOf}
 use Rattle.phrases.specs.Numbers.{decimal, digitsWithin}
 use Rattle.phrases.proofs.Texts.{text-short}
 use Rattle.mnemonics.specs.Mnemonics.{mnemonics, mnemonicOf}
@@ -38,7 +38,7 @@ named-exactly byte =
     ∙ List·getD-map isInstruction formats byte format.NoInstruction
 
 pub wide-jumps : WideJumps
-unfolding mnemonics mnemonicOf kindOf
+unfolding mnemonics mnemonicOf instructionKinds kindOf
 wide-jumps = (refl, refl)
 
 -- a test passed by each byte
@@ -69,7 +69,7 @@ isShortForm format.LookupSwitch byte = true
 isShortForm format.NoInstruction byte = true
 
 short-forms-all : So (every (λ (byte : ℕ). isShortForm (formatOf byte) byte) (listed (λ (i : ℕ). i) 0 256))
-unfolding every listed sameText formats formatOf kindOf mnemonics mnemonicOf decimal digitsWithin
+unfolding every listed sameText formats formatOf instructionKinds kindOf mnemonics mnemonicOf decimal digitsWithin
 short-forms-all = refl
 
 pub short-forms : ShortForms

@@ -9,7 +9,7 @@ use Rattle.opcodes.specs.declared.Format.{Format}
 use Rattle.opcodes.specs.declared.Format.the-variants as format
 use Rattle.opcodes.specs.Formats.{formatOf}
 use Rattle.opcodes.specs.Operands.{Layout, layoutOf}
-use Rattle.opcodes.specs.Kinds.{kindOf}
+use Rattle.opcodes.specs.InstructionKinds.{kindOf}
 use Rattle.phrases.specs.Numbers.{decimal}
 use Rattle.mnemonics.specs.Mnemonics.{mnemonicOf}
 

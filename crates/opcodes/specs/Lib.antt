@@ -1,4 +1,4 @@
 pub mod Formats
 pub mod Wide
-pub mod Kinds
+pub mod InstructionKinds
 pub mod Operands

@@ -59,8 +59,13 @@ layoutOf format.TableSwitch = Layout.tableSwitch
 layoutOf format.LookupSwitch = Layout.lookupSwitch
 layoutOf format.NoInstruction = Layout.none
 
+-- what follows the byte after wide: its operands, or nothing where wide does not modify it
+pub data WideLayout : Type 0 where
+  operands : List Operand → WideLayout
+  none : WideLayout
+
 -- after wide: a local has two bytes, and so has the number by which iinc increments it
-abbrev pub wideLayoutOf : WideForm → Layout
-wideLayoutOf form.Local = Layout.operands (Operand.bytes 2 Meaning.unsigned ∷ [])
-wideLayoutOf form.Increment = Layout.operands (incrementOf 2)
-wideLayoutOf form.NoInstruction = Layout.none
+abbrev pub wideLayoutOf : WideForm → WideLayout
+wideLayoutOf form.Local = WideLayout.operands (Operand.bytes 2 Meaning.unsigned ∷ [])
+wideLayoutOf form.Increment = WideLayout.operands (incrementOf 2)
+wideLayoutOf form.NoInstruction = WideLayout.none

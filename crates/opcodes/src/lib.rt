@@ -3,7 +3,7 @@ use pool::Kinds;
 ghost use mathlib.Core.Path.{_≡_};
 ghost use Rattle.opcodes.specs.Formats.{numbers, numbered, formatOf, Represents};
 ghost use Rattle.opcodes.specs.Wide.{wideFormOf};
-ghost use Rattle.opcodes.specs.Kinds.{kindOf};
+ghost use Rattle.opcodes.specs.InstructionKinds.{kindOf};
 
 // What follows a pool index of two bytes: nothing, a count, a count and a zero byte, or two zero bytes.
 pub enum Follow {
@@ -88,7 +88,8 @@ const TABLE_SWITCH: u8 = 22;
 
 const LOOKUP_SWITCH: u8 = 23;
 
-const NO_INSTRUCTION: u8 = 24;
+// Not the next free number, so that a new format does not move it.
+const NO_INSTRUCTION: u8 = 255;
 
 // The format of each byte, with its mnemonic (JVMS 6.5 and 7).
 const FORMATS: [u8; 256] = [

@@ -17,13 +17,12 @@ use Rattle.read.proofs.Laws.{read-past, read-found}
 use Rattle.pool.specs.declared.Kinds.{Kinds}
 use Rattle.pool.specs.declared.Entry.{Entry}
 use Rattle.pool.specs.declared.Entry.the-variants as entry
-use Rattle.pool.specs.Entries.{entryOfKind}
-use Rattle.pool.specs.Theorems.{HasKind}
+use Rattle.pool.specs.Entries.{entryOfKind, HasKind}
 use Rattle.pool.proofs.Exactly.{found-exactly, two-refusals}
 use Rattle.opcodes.specs.Operands.{Meaning, Operand}
 use Rattle.operands.specs.Checks.{signedRead, unlessFault, faultIn, indexFault, zeroFault, isArrayTag, arrayTagFault, meant, operandAt}
-use Rattle.operands.specs.Pictures.{valueOf, Keeps, Named}
-use Rattle.operands.specs.Theorems.{Stand, Stands, OperandExactly}
+use Rattle.operands.specs.Pictures.{valueOf, Keeps, Named, Stand}
+use Rattle.operands.specs.Theorems.{Stands, OperandExactly}
 
 clash : (n v : ℕ) (p next : CodeOffset) → read.Refused n p ≡ read.Value v next → ⊥
 clash n v p next e = let z : _≡_ {A = ℕ} 0 1 = cc in omega arith

@@ -7,7 +7,7 @@ use lib.ListN.{length, take, drop, length-append, length-drop}
 use lib.Seq.{take-at, drop-at, take-add, drop-drop, length-take-le}
 use Rattle.read.specs.declared.CodeOffset.{CodeOffset}
 use Rattle.read.specs.Reads.{bytesAt, after}
-use Rattle.operands.specs.Theorems.{Stand}
+use Rattle.operands.specs.Pictures.{Stand}
 
 module _ (code : List ℕ) (at : CodeOffset) (first rest : List ℕ) where
   joined-bytes : bytesAt (length first + length rest) code (at .0) ≡ bytesAt (length first) code (at .0) ++ bytesAt (length rest) code (at .0 + length first)

@@ -19,13 +19,13 @@ unfoldable pub signedRead : ℕ → Read → Read
 signedRead n (read.Value v next) = read.Value (extended n v) next
 signedRead n (read.Refused k p) = read.Refused k p
 
--- a read turned away where its number has a fault, which is not 0
-abbrev judged : ℕ → Read → CodeOffset → Read
-judged zero found at = found
-judged (suc k) found at = read.Refused (suc k) at
+-- a read, refused by the number of a fault; 0 is no fault
+abbrev refusedBy : ℕ → Read → CodeOffset → Read
+refusedBy zero found at = found
+refusedBy (suc k) found at = read.Refused (suc k) at
 
 unfoldable pub unlessFault : (ℕ → ℕ) → CodeOffset → Read → Read
-unlessFault fault at (read.Value v next) = judged (fault v) (read.Value v next) at
+unlessFault fault at (read.Value v next) = refusedBy (fault v) (read.Value v next) at
 unlessFault fault at (read.Refused k p) = read.Refused k p
 
 -- 6, 7: the pool's refusals

@@ -1,11 +1,12 @@
 -- JVMS 6.5 from the other side: the bytes of an operand, as the boxes of an instruction's format draw them, and the value
 -- that they stand for. Nothing here is read, and nothing has a number or a place of document 01.
-use Prim.Native.Nat.{ℕ, _≤_}
+use Prim.Native.Nat.{ℕ, _+_, _≤_}
 use mathlib.Core.List.{List, []}
 use mathlib.Core.Path.{_≡_}
 use lib.ListN.{length}
-use Rattle.read.specs.Reads.{bigEndian}
-use Rattle.pool.specs.Theorems.{HasKind}
+use Rattle.read.specs.declared.CodeOffset.{CodeOffset}
+use Rattle.read.specs.Reads.{bigEndian, bytesAt}
+use Rattle.pool.specs.Entries.{HasKind}
 use Rattle.opcodes.specs.Operands.{Meaning, Operand}
 use Rattle.operands.specs.Signed.{extended}
 
@@ -38,3 +39,8 @@ Named pool (Operand.bytes n Meaning.signed) v = Unit {0}
 Named pool (Operand.bytes n (Meaning.index kinds)) v = HasKind pool kinds v
 Named pool (Operand.bytes n Meaning.zero) v = Unit {0}
 Named pool (Operand.bytes n Meaning.arrayTag) v = Unit {0}
+
+-- so many bytes of the code, at an offset within it, are these
+pub record Stand (code : List ℕ) (at : CodeOffset) (bytes : List ℕ) : Type 0 where
+  pub within : at .0 + length bytes ≤ length code
+  pub there : bytesAt (length bytes) code (at .0) ≡ bytes

@@ -1,21 +1,16 @@
 -- The reading of operands and their pictures agree. The proofs are in proofs/Exactly.antt and proofs/Signed.antt.
-use Prim.Native.Nat.{ℕ, _+_, _^_, _≤_, _<_}
+use Prim.Native.Nat.{ℕ, _^_, _≤_, _<_}
 use mathlib.Core.List.{List}
 use mathlib.Core.Logic.{_↔_, _⊎_}
 use mathlib.Core.Path.{_≡_}
 use lib.ListN.{length}
 use Rattle.read.specs.declared.CodeOffset.{CodeOffset}
 use Rattle.read.specs.declared.Read.the-variants as read
-use Rattle.read.specs.Reads.{bytesAt, after}
+use Rattle.read.specs.Reads.{after}
 use Rattle.opcodes.specs.Operands.{Operand}
 use Rattle.operands.specs.Signed.{signedIn, signedOf, extended}
 use Rattle.operands.specs.Checks.{operandAt}
-use Rattle.operands.specs.Pictures.{Drawn, Named}
-
--- so many bytes of the code, at an offset within it, are these
-pub record Stand (code : List ℕ) (at : CodeOffset) (bytes : List ℕ) : Type 0 where
-  pub within : at .0 + length bytes ≤ length code
-  pub there : bytesAt (length bytes) code (at .0) ≡ bytes
+use Rattle.operands.specs.Pictures.{Drawn, Named, Stand}
 
 -- An operand is read exactly where its bytes stand and its pool entry has its kind: proved as `operand-exactly`
 pub record Stands (code pool : List ℕ) (o : Operand) (at : CodeOffset) (v : ℕ) (next : CodeOffset) : Type 0 where

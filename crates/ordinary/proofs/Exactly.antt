@@ -10,16 +10,17 @@ use Rattle.read.specs.declared.Read.the-variants as read
 use Rattle.read.specs.Reads.{after, readOf}
 use Rattle.opcodes.specs.declared.WideForm.{WideForm}
 use Rattle.opcodes.specs.declared.WideForm.the-variants as wide
-use Rattle.opcodes.specs.Operands.{Meaning, Operand, Layout, incrementOf, wideLayoutOf}
+use Rattle.opcodes.specs.Operands.{Meaning, Operand, WideLayout, incrementOf, wideLayoutOf}
 use Rattle.opcodes.specs.Wide.{wideFormOf}
 use Rattle.operands.specs.Checks.{operandAt}
-use Rattle.operands.specs.Theorems.{Stand, Stands}
+use Rattle.operands.specs.Pictures.{Stand}
+use Rattle.operands.specs.Theorems.{Stands}
 use Rattle.operands.proofs.Exactly.{operand-exactly, nowhere, byte-there, byte-read}
 use Rattle.operands.proofs.Standing.{stand-join, stand-part}
 use Rattle.ordinary.specs.declared.Instruction.{Instruction}
 use Rattle.ordinary.specs.declared.Step.{Step}
 use Rattle.ordinary.specs.declared.Step.the-variants as step
-use Rattle.ordinary.specs.Ordinary.{thenRead, ordinary, operandsFrom, laidOut, widened, wideStep}
+use Rattle.ordinary.specs.Ordinary.{thenRead, ordinary, operandsFrom, widenedBy, widened, wideStep}
 use Rattle.ordinary.specs.Pictures.{Pictures, NamedAll, WidePicture}
 use Rattle.ordinary.specs.Theorems.{OperandsExactly, WideExactly}
 
@@ -42,7 +43,7 @@ record From (code pool : List ℕ) (kind : ℕ) (before : List ℕ) (os : List O
   bytes : List ℕ
   values : List ℕ
   drawn : Pictures os values bytes
-  named : NamedAll pool os values
+  named : NamedAll pool drawn
   is : i ≡ ordinary kind (before ++ values)
   stand : Stand code at bytes
   place : next ≡ after (length bytes) at
@@ -78,7 +79,7 @@ module _ (code pool : List ℕ) (kind : ℕ) (i : Instruction) (next : CodeOffse
           }
 
 module _ (code pool : List ℕ) (kind : ℕ) where
-  from : (before : List ℕ) (at : CodeOffset) → at .0 ≤ length code → {os : List Operand} {values bytes : List ℕ} → Pictures os values bytes → NamedAll pool os values → Stand code at bytes → operandsFrom code pool kind before os at ≡ step.Decoded (ordinary kind (before ++ values)) (after (length bytes) at)
+  from : (before : List ℕ) (at : CodeOffset) → at .0 ≤ length code → {os : List Operand} {values bytes : List ℕ} → (p : Pictures os values bytes) → NamedAll pool p → Stand code at bytes → operandsFrom code pool kind before os at ≡ step.Decoded (ordinary kind (before ++ values)) (after (length bytes) at)
   unfolding operandsFrom
   from before at h Pictures.none named s = ap₂ step.Decoded (ap (ordinary kind) (sym (append-nil before))) (nowhere at)
   from before at h (Pictures.more {o} {os} {v} {vs} {bytes} first rest drawn pictures e) named s =
@@ -98,21 +99,18 @@ operands-exactly code pool kind os at i next h = (
 )
 
 -- the operands after wide name no entry
-names-none : (pool : List ℕ) (byte : ℕ) (os : List Operand) → wideLayoutOf (wideFormOf byte) ≡ Layout.operands os → (values : List ℕ) → NamedAll pool os values
-names-none pool byte os e values = go (wideFormOf byte) e
+names-none : (pool : List ℕ) (byte : ℕ) {os : List Operand} {values bytes : List ℕ} → wideLayoutOf (wideFormOf byte) ≡ WideLayout.operands os → (p : Pictures os values bytes) → NamedAll pool p
+names-none pool byte {os} {values} {bytes} e p = go (wideFormOf byte) e p
   where
-    go : (form : WideForm) → wideLayoutOf form ≡ Layout.operands os → NamedAll pool os values
-    go wide.Local q = subst (λ (l : List Operand). NamedAll pool l values) (let same : _≡_ {A = List Operand} (Operand.bytes 2 Meaning.unsigned ∷ []) os = cc in same) (one values)
-      where
-        one : (values : List ℕ) → NamedAll pool (Operand.bytes 2 Meaning.unsigned ∷ []) values
-        one [] = tt
-        one (v ∷ vs) = (tt, tt)
-    go wide.Increment q = subst (λ (l : List Operand). NamedAll pool l values) (let same : incrementOf 2 ≡ os = cc in same) (two values)
-      where
-        two : (values : List ℕ) → NamedAll pool (incrementOf 2) values
-        two [] = tt
-        two (v ∷ []) = (tt, tt)
-        two (v ∷ w ∷ vs) = (tt, (tt, tt))
+    one : {values bytes : List ℕ} (p : Pictures (Operand.bytes 2 Meaning.unsigned ∷ []) values bytes) → NamedAll pool p
+    one (Pictures.more first rest drawn Pictures.none e) = (tt, tt)
+
+    two : {values bytes : List ℕ} (p : Pictures (incrementOf 2) values bytes) → NamedAll pool p
+    two (Pictures.more first rest drawn (Pictures.more second last also Pictures.none f) e) = (tt, (tt, tt))
+
+    go : (form : WideForm) → wideLayoutOf form ≡ WideLayout.operands os → (p : Pictures os values bytes) → NamedAll pool p
+    go wide.Local q = subst (λ (l : List Operand). (p : Pictures l values bytes) → NamedAll pool p) (let same : _≡_ {A = List Operand} (Operand.bytes 2 Meaning.unsigned ∷ []) os = cc in same) one
+    go wide.Increment q = subst (λ (l : List Operand). (p : Pictures l values bytes) → NamedAll pool p) (let same : incrementOf 2 ≡ os = cc in same) two
     go wide.NoInstruction q = absurd (let z : _≡_ {A = ℕ} 0 1 = cc in omega arith)
 
 module _ (code pool : List ℕ) (at : CodeOffset) (i : Instruction) where
@@ -122,21 +120,18 @@ module _ (code pool : List ℕ) (at : CodeOffset) (i : Instruction) where
       let b = byte-there code at (f .value) (f .mid) (f .reads) in
       laid (wideLayoutOf (wideFormOf (f .value))) refl b (f .decodes)
     where
-      laid : {byte : ℕ} {mid : CodeOffset} (l : Layout) → wideLayoutOf (wideFormOf byte) ≡ l → Stand code at (byte ∷ []) × (mid ≡ after 1 at) → widened code pool byte at mid ≡ step.Decoded i next
+      laid : {byte : ℕ} {mid : CodeOffset} (l : WideLayout) → wideLayoutOf (wideFormOf byte) ≡ l → Stand code at (byte ∷ []) × (mid ≡ after 1 at) → widened code pool byte at mid ≡ step.Decoded i next
           → (bytes : List ℕ) × WidePicture i bytes × Stand code at bytes × (next ≡ after (length bytes) at)
-      laid {byte} {mid} (Layout.operands os) q b d =
+      laid {byte} {mid} (WideLayout.operands os) q b d =
           let fits : mid .0 ≤ length code = rw (b .1) (b .0 .within) in
-          let p = operands-exactly code pool byte os mid i next fits .0 (sym (ap (laidOut code pool byte at mid) q) ∙ d) in
+          let p = operands-exactly code pool byte os mid i next fits .0 (sym (ap (widenedBy code pool byte at mid) q) ∙ d) in
           let rest : Stand code (after 1 at) (p .0) = subst (λ (o : CodeOffset). Stand code o (p .0)) (b .1) (p .3) in (
             byte ∷ p .0,
             record { byte = byte; rest = p .0; drawn = refl; operands = os; form = q; picture = p .1 },
             stand-join code at (byte ∷ []) (p .0) (b .0) rest,
             p .4 ∙ ap (after (length (p .0))) (b .1) ∙ further at 1 (length (p .0)) ∙ ap (λ (n : ℕ). after n at) (let same : 1 + length (p .0) ≡ suc (length (p .0)) = omega arith in same),
           )
-      laid {byte} {mid} Layout.wide q b d = absurd (clash 5 at i next (sym (ap (laidOut code pool byte at mid) q) ∙ d))
-      laid {byte} {mid} Layout.tableSwitch q b d = absurd (clash 5 at i next (sym (ap (laidOut code pool byte at mid) q) ∙ d))
-      laid {byte} {mid} Layout.lookupSwitch q b d = absurd (clash 5 at i next (sym (ap (laidOut code pool byte at mid) q) ∙ d))
-      laid {byte} {mid} Layout.none q b d = absurd (clash 5 at i next (sym (ap (laidOut code pool byte at mid) q) ∙ d))
+      laid {byte} {mid} WideLayout.none q b d = absurd (clash 5 at i next (sym (ap (widenedBy code pool byte at mid) q) ∙ d))
 
   wide-from : (bytes : List ℕ) → WidePicture i bytes → Stand code at bytes → wideStep code pool at ≡ step.Decoded i (after (length bytes) at)
   wide-from bytes p s =
@@ -144,8 +139,8 @@ module _ (code pool : List ℕ) (at : CodeOffset) (i : Instruction) where
       let fits : after 1 at .0 ≤ length code = parts .0 .within in
       let whole : after (length (p .rest)) (after 1 at) ≡ after (length bytes) at = further at 1 (length (p .rest)) ∙ ap (λ (n : ℕ). after n at) (let same : 1 + length (p .rest) ≡ suc (length (p .rest)) = omega arith in same ∙ sym (ap length (p .drawn))) in
       ap (λ (r : Read). thenRead r (λ byte mid. widened code pool byte at mid)) (byte-read code at (p .byte) (parts .0))
-      ∙ ap (laidOut code pool (p .byte) at (after 1 at)) (p .form)
-      ∙ operands-exactly code pool (p .byte) (p .operands) (after 1 at) i (after (length bytes) at) fits .1 (p .rest, p .picture, names-none pool (p .byte) (p .operands) (p .form) (p .picture .values), parts .1, sym whole)
+      ∙ ap (widenedBy code pool (p .byte) at (after 1 at)) (p .form)
+      ∙ operands-exactly code pool (p .byte) (p .operands) (after 1 at) i (after (length bytes) at) fits .1 (p .rest, p .picture, names-none pool (p .byte) (p .form) (p .picture .drawn), parts .1, sym whole)
 
 pub wide-exactly : WideExactly
 wide-exactly code pool at i next = (wide-to code pool at i next, λ p. wide-from code pool at i (p .0) (p .1) (p .2) ∙ ap (step.Decoded i) (sym (p .3)))

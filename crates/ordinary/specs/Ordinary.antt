@@ -7,7 +7,7 @@ use Rattle.read.specs.declared.CodeOffset.{CodeOffset}
 use Rattle.read.specs.declared.Read.{Read}
 use Rattle.read.specs.declared.Read.the-variants as read
 use Rattle.read.specs.Reads.{readOf}
-use Rattle.opcodes.specs.Operands.{Operand, Layout, wideLayoutOf}
+use Rattle.opcodes.specs.Operands.{Operand, WideLayout, wideLayoutOf}
 use Rattle.opcodes.specs.Wide.{wideFormOf}
 use Rattle.operands.specs.Checks.{operandAt}
 use Rattle.ordinary.specs.declared.Instruction.{Instruction}
@@ -41,15 +41,12 @@ abbrev pub indexed : List ℕ → ℕ → List Operand → Read → Step
 indexed code kind follow index = thenRead index (λ i next. operandsFrom code [] kind (i ∷ []) follow next)
 
 -- JVMS 6.5 wide: the byte at `at`, after it, is the kind, and its operands start at the next. 5: a bad byte after wide
-abbrev pub laidOut : List ℕ → List ℕ → ℕ → CodeOffset → CodeOffset → Layout → Step
-laidOut code pool byte at next (Layout.operands os) = operandsFrom code pool byte [] os next
-laidOut code pool byte at next Layout.wide = step.Refused 5 at
-laidOut code pool byte at next Layout.tableSwitch = step.Refused 5 at
-laidOut code pool byte at next Layout.lookupSwitch = step.Refused 5 at
-laidOut code pool byte at next Layout.none = step.Refused 5 at
+abbrev pub widenedBy : List ℕ → List ℕ → ℕ → CodeOffset → CodeOffset → WideLayout → Step
+widenedBy code pool byte at next (WideLayout.operands os) = operandsFrom code pool byte [] os next
+widenedBy code pool byte at next WideLayout.none = step.Refused 5 at
 
 abbrev pub widened : List ℕ → List ℕ → ℕ → CodeOffset → CodeOffset → Step
-widened code pool byte at next = laidOut code pool byte at next (wideLayoutOf (wideFormOf byte))
+widened code pool byte at next = widenedBy code pool byte at next (wideLayoutOf (wideFormOf byte))
 
 abbrev pub wideStep : List ℕ → List ℕ → CodeOffset → Step
 wideStep code pool at = thenRead (readOf 1 code at) (λ byte next. widened code pool byte at next)

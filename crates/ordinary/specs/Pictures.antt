@@ -3,7 +3,7 @@
 use Prim.Native.Nat.{ℕ}
 use mathlib.Core.List.{List, [], _∷_, _++_}
 use mathlib.Core.Path.{_≡_}
-use Rattle.opcodes.specs.Operands.{Operand, Layout, wideLayoutOf}
+use Rattle.opcodes.specs.Operands.{Operand, WideLayout, wideLayoutOf}
 use Rattle.opcodes.specs.Wide.{wideFormOf}
 use Rattle.operands.specs.Pictures.{Drawn, Named}
 use Rattle.ordinary.specs.declared.Instruction.{Instruction}
@@ -15,10 +15,9 @@ pub data Pictures : List Operand → List ℕ → List ℕ → Type 0 where
   more : {o : Operand} {os : List Operand} {v : ℕ} {vs bytes : List ℕ} (first rest : List ℕ) → Drawn o v first → Pictures os vs rest → bytes ≡ first ++ rest → Pictures (o ∷ os) (v ∷ vs) bytes
 
 -- the pool entries that they name have their kinds
-abbrev pub NamedAll : List ℕ → List Operand → List ℕ → Type 0
-NamedAll pool [] values = Unit {0}
-NamedAll pool (o ∷ os) [] = Unit {0}
-NamedAll pool (o ∷ os) (v ∷ vs) = Named pool o v × NamedAll pool os vs
+abbrev pub NamedAll : List ℕ → {os : List Operand} {values bytes : List ℕ} → Pictures os values bytes → Type 0
+NamedAll pool Pictures.none = Unit {0}
+NamedAll pool (Pictures.more {o} {os} {v} first rest drawn pictures e) = Named pool o v × NamedAll pool pictures
 
 -- an instruction of this kind with these operands, and its bytes after the opcode
 pub record OrdinaryPicture (kind : ℕ) (os : List Operand) (i : Instruction) (bytes : List ℕ) : Type 0 where
@@ -32,5 +31,5 @@ pub record WidePicture (i : Instruction) (bytes : List ℕ) : Type 0 where
   pub rest : List ℕ
   pub drawn : bytes ≡ byte ∷ rest
   pub operands : List Operand
-  pub form : wideLayoutOf (wideFormOf byte) ≡ Layout.operands operands
+  pub form : wideLayoutOf (wideFormOf byte) ≡ WideLayout.operands operands
   pub picture : OrdinaryPicture byte operands i rest

@@ -7,7 +7,7 @@ use lib.ListN.{length}
 use Rattle.read.specs.declared.CodeOffset.{CodeOffset}
 use Rattle.read.specs.Reads.{after}
 use Rattle.opcodes.specs.Operands.{Operand}
-use Rattle.operands.specs.Theorems.{Stand}
+use Rattle.operands.specs.Pictures.{Stand}
 use Rattle.ordinary.specs.declared.Instruction.{Instruction}
 use Rattle.ordinary.specs.declared.Step.the-variants as step
 use Rattle.ordinary.specs.Ordinary.{operandsFrom, wideStep}
@@ -19,7 +19,7 @@ abbrev pub OperandsExactly : Type 0
 OperandsExactly =
     (code pool : List ℕ) (kind : ℕ) (os : List Operand) (at : CodeOffset) (i : Instruction) (next : CodeOffset) → at .0 ≤ length code
     → (operandsFrom code pool kind [] os at ≡ step.Decoded i next)
-    ↔ ((bytes : List ℕ) × (p : OrdinaryPicture kind os i bytes) × NamedAll pool os (p .values) × Stand code at bytes × (next ≡ after (length bytes) at))
+    ↔ ((bytes : List ℕ) × (p : OrdinaryPicture kind os i bytes) × NamedAll pool (p .drawn) × Stand code at bytes × (next ≡ after (length bytes) at))
 
 -- What stands after wide is decoded exactly where its picture stands: proved as `wide-exactly`
 abbrev pub WideExactly : Type 0

@@ -88,6 +88,16 @@ fn count_and_zero(code: &[u8], kind: u32, index: u32, at: CodeOffset) -> Step
     }
 }
 
+// Two zero bytes, after an index.
+fn two_zeros(code: &[u8], kind: u32, index: u32, at: CodeOffset) -> Step
+    ensures { λ r. ⌜ r ≡ operandsFrom (now (code .entry)) [] kind (index ∷ []) (followOf Follow.TwoZeros) at ⌝ }
+{
+    match operands::zero_read(at, read::read_u2(code, at)) {
+        Read::Value(zeros, end) => Step::Decoded(Instruction::Ordinary(kind, index, zeros), end),
+        Read::Refused(number, place) => Step::Refused(number, place),
+    }
+}
+
 fn follow_index(code: &[u8], kind: u32, index: u32, follow: Follow, at: CodeOffset) -> Step
     ensures { λ r. ⌜ r ≡ operandsFrom (now (code .entry)) [] kind (index ∷ []) (followOf follow) at ⌝ }
 {
@@ -95,13 +105,7 @@ fn follow_index(code: &[u8], kind: u32, index: u32, follow: Follow, at: CodeOffs
         Follow::Nothing => Step::Decoded(Instruction::Ordinary(kind, index, 0), at),
         Follow::Count => with_second(kind, index, read::read_u1(code, at)),
         Follow::CountAndZero => count_and_zero(code, kind, index, at),
-        Follow::TwoZeros => {
-            with_second(
-                kind,
-                index,
-                operands::zero_read(at, read::read_u2(code, at)),
-            )
-        }
+        Follow::TwoZeros => two_zeros(code, kind, index, at),
     }
 }
 

@@ -14,8 +14,8 @@ use Rattle.pool.specs.declared.Kinds.{Kinds}
 use Rattle.pool.specs.declared.Entry.{Entry}
 use Rattle.pool.specs.declared.Entry.the-variants as entry
 use Rattle.pool.specs.Tags.{tagsOf, allowsTag}
-use Rattle.pool.specs.Entries.{entryAt, ofKind, entryOfKind}
-use Rattle.pool.specs.Theorems.{HasKind, FoundExactly, NoEntryExactly, WrongKindExactly, TwoRefusals}
+use Rattle.pool.specs.Entries.{entryAt, ofKind, entryOfKind, HasKind}
+use Rattle.pool.specs.Theorems.{FoundExactly, NoEntryExactly, WrongKindExactly, TwoRefusals}
 
 -- the kind check after a lookup that answered e
 module _ (kinds : Kinds) {e : Entry} where

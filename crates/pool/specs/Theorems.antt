@@ -8,13 +8,7 @@ use Rattle.laws.specs.Bytes.{In}
 use Rattle.pool.specs.declared.Kinds.{Kinds}
 use Rattle.pool.specs.declared.Entry.the-variants as entry
 use Rattle.pool.specs.Tags.{tagsOf}
-use Rattle.pool.specs.Entries.{entryOfKind}
-
--- JVMS 6.5: the index is a valid one, and its entry is of one of the kinds
-pub record HasKind (pool : List ℕ) (kinds : Kinds) (index : ℕ) : Type 0 where
-  pub positive : 0 < index
-  pub within : index < length pool
-  pub kind : In (getD pool index 0) (tagsOf kinds)
+use Rattle.pool.specs.Entries.{HasKind, entryOfKind}
 
 -- proved as `found-exactly`
 abbrev pub FoundExactly : Type 0

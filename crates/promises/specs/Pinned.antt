@@ -27,13 +27,13 @@ use Rattle.opcodes.specs.declared.Format.{Format}
 use Rattle.opcodes.specs.Formats.{numbers}
 use Rattle.opcodes.specs.Operands.{followOf, incrementOf}
 use Rattle.opcodes.specs.Wide.{wideFormOf}
-use Rattle.opcodes.specs.Kinds.{kindOf}
+use Rattle.opcodes.specs.InstructionKinds.{kindOf}
 use Rattle.operands.specs.Checks.{signedRead, indexRead, zeroRead, arrayTagRead}
 use Rattle.ordinary.specs.declared.Instruction.{Instruction}
 use Rattle.ordinary.specs.Ordinary.{operandsFrom, withFirst, indexed, wideStep}
 use Rattle.switches.specs.Switches.{entryCount}
 use Rattle.instruction.specs.Steps.{stepOf}
-use Rattle.instruction.specs.Theorems.{entriesOf}
+use Rattle.instruction.specs.Entries.{entriesOf}
 use Rattle.lookup.specs.Lookup.{lookupOf}
 use Rattle.filling.specs.Filling.{recordOf}
 use Rattle.jumps.specs.Stored.{storedEntries}

@@ -14,7 +14,7 @@ use Rattle.read.specs.declared.Read.{Read}
 use Rattle.read.specs.declared.Read.the-variants as read
 use Rattle.read.specs.Reads.{bigEndian, bytesAt, after, readOf}
 use Rattle.operands.specs.Signed.{signedOf, wordOf}
-use Rattle.operands.specs.Theorems.{Stand}
+use Rattle.operands.specs.Pictures.{Stand}
 use Rattle.operands.proofs.Exactly.{finds, found}
 use Rattle.operands.proofs.Standing.{stand-join, stand-part}
 use Rattle.records.specs.declared.SwitchEntry.{SwitchEntry}

@@ -6,7 +6,7 @@ use mathlib.Core.Path.{_≡_}
 use lib.ListN.{length}
 use Rattle.read.specs.declared.CodeOffset.{CodeOffset}
 use Rattle.read.specs.Reads.{after}
-use Rattle.operands.specs.Theorems.{Stand}
+use Rattle.operands.specs.Pictures.{Stand}
 use Rattle.ordinary.specs.declared.Instruction.{Instruction}
 use Rattle.ordinary.specs.declared.Step.{Step}
 use Rattle.ordinary.specs.declared.Step.the-variants as step

@@ -9,15 +9,15 @@ use lib.ListN.{length, length-map}
 use Rattle.read.specs.declared.CodeOffset.{CodeOffset}
 use Rattle.read.specs.Reads.{after}
 use Rattle.opcodes.specs.Formats.{formatOf}
-use Rattle.opcodes.specs.Kinds.{kindOf}
+use Rattle.opcodes.specs.InstructionKinds.{kindOf}
 use Rattle.opcodes.specs.Operands.{Layout, layoutOf}
 use Rattle.operands.specs.Signed.{signedOf}
 use Rattle.ordinary.specs.declared.Instruction.{Instruction}
 use Rattle.ordinary.specs.declared.Instruction.the-variants as instruction
 use Rattle.ordinary.specs.declared.Step.the-variants as step
 use Rattle.instruction.specs.Steps.{stepOf}
-use Rattle.instruction.specs.Pictures.{Follows}
-use Rattle.instruction.specs.Theorems.{StandsAt, entriesOf}
+use Rattle.instruction.specs.Pictures.{Follows, StandsAt}
+use Rattle.instruction.specs.Entries.{entriesOf}
 use Rattle.instruction.proofs.Exactly.{step-exactly, step-within}
 use Rattle.lines.specs.Lines.{Line, Lines, linesOf, listOf, Consecutive}
 use Rattle.lines.proofs.Exactly.{lines-exactly}

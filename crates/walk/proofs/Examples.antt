@@ -1,7 +1,7 @@
 use mathlib.Core.Path.{refl}
 use Rattle.read.specs.Reads.{bigEndian, readOf}
 use Rattle.opcodes.specs.Formats.{formats, formatOf}
-use Rattle.opcodes.specs.Kinds.{kindOf}
+use Rattle.opcodes.specs.InstructionKinds.{instructionKinds, kindOf}
 use Rattle.operands.specs.Signed.{signedIn, extended}
 use Rattle.operands.specs.Checks.{signedRead}
 use Rattle.ordinary.specs.Ordinary.{operandsFrom}
@@ -14,5 +14,5 @@ use Rattle.bytecode.specs.Decoding.{jumpWords}
 use Rattle.walk.specs.Examples.{NodesCompute}
 
 pub nodes-compute : NodesCompute
-unfolding bigEndian readOf formats formatOf kindOf signedIn extended signedRead operandsFrom wordsFrom countOf stepOf linesFrom listOf tableFrom pairsFrom hasJump jumpWords
+unfolding bigEndian readOf formats formatOf instructionKinds kindOf signedIn extended signedRead operandsFrom wordsFrom countOf stepOf linesFrom listOf tableFrom pairsFrom hasJump jumpWords
 nodes-compute = refl

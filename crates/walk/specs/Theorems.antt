@@ -9,7 +9,7 @@ use lib.ListN.{length}
 use Rattle.read.specs.declared.CodeOffset.{CodeOffset}
 use Rattle.ordinary.specs.declared.Instruction.the-variants as instruction
 use Rattle.operands.specs.Signed.{signedOf}
-use Rattle.instruction.specs.Theorems.{StandsAt}
+use Rattle.instruction.specs.Pictures.{StandsAt}
 use Rattle.lines.specs.Lines.{Line, linesOf, listOf}
 use Rattle.records.specs.Records.{recordRoom, entryRoom}
 use Rattle.bytecode.specs.declared.Decoded.{Decoded}

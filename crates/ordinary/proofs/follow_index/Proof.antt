@@ -15,10 +15,7 @@ returns-3 : tie.Need-returns-3
 returns-3 c = rw (c .before .enum-told3 .given .1) (c .count-and-zero .ensures)
 
 returns-4 : tie.Need-returns-4
-unfolding operandsFrom
-returns-4 c =
-    rw (c .before .before .before .enum-told4 .given .1, ← c .before .before .read-u2 .ensures, ← c .before .zero-read .ensures)
-    (c .with-second2 .ensures)
+returns-4 c = rw (c .before .enum-told4 .given .1) (c .two-zeros .ensures)
 
 pub follow-index-spec : {M : Type 1} → statement M
 follow-index-spec =
@@ -31,8 +28,6 @@ follow-index-spec =
     (λ c. search needs)
     (λ c κs. search needs)
     (λ c. search needs)
-    (λ c κs. search needs)
-    (λ c κs. search needs)
     (λ c κs. search needs)
     returns
     returns-2
