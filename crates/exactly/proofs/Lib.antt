@@ -1,3 +1,5 @@
 pub mod Decode
+pub mod Standing
+pub mod Answers
 pub mod Stores
 pub mod Pool
