@@ -90,6 +90,7 @@ judged (run.Filled k m) checked.Good = decoded.Accepted k m
 judged (run.Filled k m) (checked.Bad n p second) = decoded.Refused n p second
 judged (run.Refused n p) c = decoded.Refused n p 0
 
+-- What lines answer, within the limits
 abbrev pub answerOf : List ℕ → Lines → Decoded
 answerOf code ls = judged (runFrom 0 0 ls) (check (jumpsOf code ls))
 
@@ -111,7 +112,7 @@ unfoldable pub storeAfter : ℕ → Decoded → List ℕ → List ℕ → List �
 storeAfter mark (decoded.Accepted k m) before written = written
 storeAfter mark (decoded.Refused n p second) before written = take mark before ++ replicate (length before - mark) 0
 
--- Decoding starts with empty stores: the mark is 0 in both
+-- Decoding writes from the start of both stores, so both marks are 0
 abbrev pub recordsAfter : List ℕ → List ℕ → List ℕ → List ℕ → List ℕ
 recordsAfter code pool records entries =
     storeAfter 0 (decoding code pool (recordRoom records) (entryRoom entries)) records (recordsFrom 0 0 (fitted code pool (recordRoom records) (entryRoom entries)) records)

@@ -1,4 +1,4 @@
--- Of the stores only their room counts, and the more room, the fewer refusals. The proofs are in proofs/Stores.antt.
+-- Of the stores only their room counts, and more of it does away with 14 and 15 alone. The proofs are in proofs/Stores.antt.
 use Prim.Native.Nat.{ℕ, _*_, _≤_}
 use mathlib.Core.List.{List}
 use mathlib.Core.Path.{_≡_}
