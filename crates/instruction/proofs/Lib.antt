@@ -1,5 +1,5 @@
 pub mod Laws
 pub mod Exactly
-pub mod Refusals
+pub mod Faults
 pub mod Pool
 pub mod Examples

@@ -3,4 +3,5 @@ pub mod Names
 pub mod Pictures
 pub mod Entries
 pub mod Theorems
+pub mod Faults
 pub mod Examples

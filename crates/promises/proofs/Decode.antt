@@ -10,7 +10,7 @@ use lib.Dec.{leb}
 use lib.ListN.{length}
 use Rattle.read.specs.declared.CodeOffset.{CodeOffset}
 use Rattle.instruction.specs.Entries.{entriesOf}
-use Rattle.instruction.proofs.Refusals.{step-refuses}
+use Rattle.instruction.proofs.Faults.{step-refuses, from-3-to-11}
 use Rattle.lines.specs.Lines.{Lines, linesOf, listOf}
 use Rattle.lines.specs.Theorems.{Follow}
 use Rattle.lines.proofs.Exactly.{lines-exactly}
@@ -129,7 +129,7 @@ module _ (code pool : List ℕ) where
       (λ records entries at k m n p f e j. let z : _≡_ {A = ℕ} 0 1 = cc in omega arith)
       (λ records entries n′ p′ at k m n p f e j.
       let same : n′ ≡ n = cc in
-      let number = step-refuses code pool at n′ p′ (f .1) in
+      let number = from-3-to-11 (step-refuses code pool at n′ p′ (f .1)) in
       ⊎-elim (λ q. omega (arith, number)) (λ q. omega (arith, number)) j)
 
 module _ (code pool records entries : List ℕ) (n : ℕ) (place : CodeOffset) (second : ℕ) where

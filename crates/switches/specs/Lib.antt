@@ -1,3 +1,4 @@
 pub mod Switches
 pub mod Pictures
 pub mod Theorems
+pub mod Faults
