@@ -1,24 +1,27 @@
 -- Each answer of `decode` exactly when, over the instructions that stand in the code.
 use Prim.Native.Nat.{ℕ, zero, suc, _+_, _-_, _≤_, _<_}
 use mathlib.Core.Bool.{Bool, true, false}
-use mathlib.Core.List.{List, [], _∷_, map, List·Memᴰ, Memᴰ·map, Memᴰ·of-map}
+use mathlib.Core.List.{List, [], _∷_, map, List·Memᴰ, List·Memᴰ·tail, Memᴰ·map, Memᴰ·of-map, Memᴰ·append-left}
 use mathlib.Core.Logic.{_↔_, _⊎_, inl, inr, ⊎-elim}
 use mathlib.Core.Path.{_≡_, refl, sym, ap, ap₂, _∙_, subst}
 use native.Mathlib.Omega.{arith}
 use borrow.Author.Tests.{leb-true, leb-false}
 use lib.Dec.{leb}
 use lib.ListN.{length}
+use Rattle.laws.specs.Bytes.{In, oneOf}
+use Rattle.laws.proofs.Bytes.{one-of}
 use Rattle.read.specs.declared.CodeOffset.{CodeOffset}
 use Rattle.ordinary.specs.declared.Step.the-variants as step
 use Rattle.instruction.specs.Steps.{stepOf}
 use Rattle.instruction.specs.Entries.{entriesOf}
-use Rattle.instruction.proofs.Faults.{step-refused-exactly}
+use Rattle.instruction.specs.Faults.{stepRefusals}
+use Rattle.instruction.proofs.Faults.{step-refused-exactly, step-refuses}
 use Rattle.lines.specs.Lines.{Line, Lines, linesOf, listOf, Consecutive}
 use Rattle.lines.proofs.Exactly.{lines-exactly}
 use Rattle.jumps.specs.declared.Checked.{Checked}
 use Rattle.jumps.specs.declared.Checked.the-variants as checked
-use Rattle.jumps.specs.Jumps.{Jumps, startsOf, check}
-use Rattle.jumps.specs.Landing.{AllLand}
+use Rattle.jumps.specs.Jumps.{Jumps, targetOf, startsOf, check}
+use Rattle.jumps.specs.Landing.{AllLand, Fails}
 use Rattle.jumps.proofs.Exactly.{good-exactly, bad-exactly}
 use Rattle.bytecode.specs.declared.Run.{Run}
 use Rattle.bytecode.specs.declared.Run.the-variants as run
@@ -27,9 +30,8 @@ use Rattle.bytecode.specs.declared.Decoded.the-variants as decoded
 use Rattle.bytecode.specs.Decoding.{codeLimit, poolLimit, fitting, fitted, runFrom, lineJumps, jumpsOf, judged, answerOf, decoding}
 use Rattle.bytecode.proofs.Laws.{fit-line, fit-14, fit-15, not-filled}
 use Rattle.bytecode.proofs.Limits.{over-code, over-pool, both-within, Limits, by-limits}
-use Rattle.exactly.specs.Decode.{totalEntries}
-use Rattle.exactly.specs.Standing.{Standing, linesIn, Cover, jumpsDrawn, allJumpsDrawn}
-use Rattle.exactly.specs.Answers.{Stored, Accepted, Demand2, Demand2Exactly, Why, RefusedExactly}
+use Rattle.exactly.specs.Standing.{Standing, linesIn, totalEntries, Cover, jumpsDrawn, allJumpsDrawn}
+use Rattle.exactly.specs.Answers.{Stored, Accepted, Demand2, Demand2Exactly, Why, RefusedExactly, refusals, RefusalNumbers}
 use Rattle.exactly.proofs.Standing.{onto, list-onto, run-onto, fit-onto, decoded-line, standing-line, lines-are, linesPast, after-line, all-jumps-drawn, count-lines}
 
 abbrev start : CodeOffset
@@ -271,3 +273,25 @@ demand-2-exactly code pool record-room entry-room k m = (λ e. subst (Says code 
 
 pub refused-exactly : RefusedExactly
 refused-exactly code pool record-room entry-room n place second = (λ e. subst (Says code pool record-room entry-room) e (truth code pool record-room entry-room), why-is code pool record-room entry-room n place second)
+
+-- The numbers
+numbered : {n : ℕ} (numbers : List ℕ) (number : ℕ) → oneOf numbers number ≡ true → n ≡ number → In n numbers
+numbered numbers number h e = subst (λ (m : ℕ). In m numbers) (sym e) (one-of numbers number .0 h)
+
+step-refusal : {n : ℕ} → In n stepRefusals → In n refusals
+step-refusal m = List·Memᴰ·tail (List·Memᴰ·tail (Memᴰ·append-left (12 ∷ 13 ∷ 14 ∷ 15 ∷ []) m))
+
+why-number : (code pool : List ℕ) (record-room entry-room n : ℕ) (place : CodeOffset) (second : ℕ) → Why code pool record-room entry-room n place second → In n refusals × (In n (12 ∷ 13 ∷ []) ⊎ (second ≡ 0))
+why-number code pool record-room entry-room n place second (Why.long-code h is there none) = (numbered refusals 1 refl is, inr none)
+why-number code pool record-room entry-room n place second (Why.long-pool h k is there none) = (numbered refusals 2 refl is, inr none)
+why-number code pool record-room entry-room n place second (Why.bad-instruction ls at stored inside wrong none) = (step-refusal (step-refuses code pool at n place (step-refused-exactly code pool at n place .1 wrong)), inr none)
+why-number code pool record-room entry-room n place second (Why.no-entry-left ls s stored few is there none) = (numbered refusals 14 refl is, inr none)
+why-number code pool record-room entry-room n place second (Why.no-record-left ls s stored room full is there none) = (numbered refusals 15 refl is, inr none)
+why-number code pool record-room entry-room n place second (Why.bad-jump ls stored fails) = of-jump (fails .fails)
+  where
+    of-jump : Fails (startsOf (allJumpsDrawn ls)) (targetOf (fails .at .at) (fails .word)) n → In n refusals × (In n (12 ∷ 13 ∷ []) ⊎ (second ≡ 0))
+    of-jump (Fails.below-zero t e is) = (numbered refusals 12 refl is, inl (numbered (12 ∷ 13 ∷ []) 12 refl is))
+    of-jump (Fails.nowhere t e missed is) = (numbered refusals 13 refl is, inl (numbered (12 ∷ 13 ∷ []) 13 refl is))
+
+pub refusal-numbers : RefusalNumbers
+refusal-numbers code pool record-room entry-room n place second e = why-number code pool record-room entry-room n place second (refused-exactly code pool record-room entry-room n place second .0 e)

@@ -1,4 +1,3 @@
-pub mod Decode
 pub mod Standing
 pub mod Answers
 pub mod Stores

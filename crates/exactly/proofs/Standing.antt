@@ -20,8 +20,7 @@ use Rattle.jumps.specs.Jumps.{Jumps}
 use Rattle.bytecode.specs.declared.Run.{Run}
 use Rattle.bytecode.specs.Decoding.{fitting, runFrom, jumpWords, lineJumps}
 use Rattle.bytecode.proofs.Laws.{fit-line}
-use Rattle.exactly.specs.Decode.{totalEntries}
-use Rattle.exactly.specs.Standing.{Standing, linesIn, Cover, jumpsWith, jumpsDrawn, allJumpsDrawn}
+use Rattle.exactly.specs.Standing.{Standing, linesIn, totalEntries, Cover, jumpsWith, jumpsDrawn, allJumpsDrawn}
 
 -- lines, and what comes after them
 unfoldable pub onto : List Line → Lines → Lines

@@ -1,84 +1,51 @@
 -- Of the stores only their room counts.
-use Prim.Native.Nat.{ℕ, _+_, _-_, _*_, _≤_}
+use Prim.Native.Nat.{ℕ, _*_, _≤_}
 use mathlib.Core.List.{List, _++_}
-use mathlib.Core.Path.{_≡_, refl, sym, ap, _∙_, subst}
+use mathlib.Core.Path.{_≡_, refl, sym, ap, _∙_}
 use native.Mathlib.Omega.{arith}
 use lib.ListN.{length, take, drop}
 use lib.Seq.{take-at}
 use Rattle.read.specs.declared.CodeOffset.{CodeOffset}
-use Rattle.instruction.specs.Entries.{entriesOf}
-use Rattle.lines.specs.Lines.{Lines, linesOf, listOf}
+use Rattle.lines.specs.Lines.{linesOf, listOf}
 use Rattle.records.specs.Records.{recordWords, entryWords, recordRoom, entryRoom}
-use Rattle.jumps.specs.declared.Checked.{Checked}
-use Rattle.bytecode.specs.declared.Run.{Run}
-use Rattle.bytecode.specs.declared.Run.the-variants as run
 use Rattle.bytecode.specs.declared.Decoded.{Decoded}
-use Rattle.bytecode.specs.Decoding.{fitting, fitted, runFrom, judged, answerOf, limited, decoding}
+use Rattle.bytecode.specs.declared.Decoded.the-variants as decoded
+use Rattle.bytecode.specs.Decoding.{decoding}
 use Rattle.bytecode.specs.Rows.{recordRow, entryRow}
-use Rattle.bytecode.proofs.Laws.{by-fitting, fitting-short}
-use Rattle.bytecode.proofs.Limits.{over-code, over-pool, both-within, Limits, by-limits}
-use Rattle.bytecode.proofs.Accepted.{filled-fits, acceptance}
+use Rattle.bytecode.proofs.Accepted.{acceptance}
 use Rattle.bytecode.proofs.Rows.{record-words, row-words, accepted-stores}
-use Rattle.exactly.specs.Decode.{totalEntries}
+use Rattle.exactly.specs.Standing.{Standing}
+use Rattle.exactly.specs.Answers.{Stored, Demand2, Why}
 use Rattle.exactly.specs.Stores.{NotForRoom, LargerRooms, SameWords}
-use Rattle.exactly.proofs.Decode.{all-fit}
+use Rattle.exactly.proofs.Answers.{demand-2-exactly, refused-exactly}
 
--- lines that are not refused for want of room all fit
-abbrev Room : ℕ → ℕ → Lines → Type 0
-Room k m fit = (n : ℕ) (p : CodeOffset) → runFrom k m fit ≡ run.Refused n p → (n ≡ 14 → ⊥) × (n ≡ 15 → ⊥)
+-- What holds in some room holds in any larger, but for a refusal for want of room
+module _ (code pool : List ℕ) (record-room entry-room record-room′ entry-room′ : ℕ) (more-records : record-room ≤ record-room′) (more-entries : entry-room ≤ entry-room′) where
+  stored-more : {ls : List (Standing code pool)} {end : CodeOffset} → Stored code pool record-room entry-room ls end → Stored code pool record-room′ entry-room′ ls end
+  stored-more s =
+      record { short-code = s .short-code; short-pool = s .short-pool; cover = s .cover; records-fit = omega (arith, s .records-fit); entries-fit = omega (arith, s .entries-fit) }
 
-fits-unless : (ls : Lines) (records entries k m : ℕ) → Room k m (fitting records entries ls) → fitting records entries ls ≡ ls
-unfolding runFrom
-fits-unless =
-    by-fitting (λ records entries ls fit. (k m : ℕ) → Room k m fit → fit ≡ ls)
-    (λ l rest fit records entries room h k m r. ap (Lines.line l) (h (k + 1) (m + entriesOf (l .instruction)) r))
-    (λ l rest records entries k m r. absurd (r 14 (l .at) refl .0 refl))
-    (λ l rest entries k m r. absurd (r 15 (l .at) refl .1 refl))
-    (λ records entries k m r. refl)
-    (λ records entries n p k m r. refl)
+  accepted-more : {k m : ℕ} → Demand2 code pool record-room entry-room k m → Demand2 code pool record-room′ entry-room′ k m
+  accepted-more d =
+      let a = d .accepted in
+      record { lines = d .lines; accepted = record { stored = stored-more (a .stored); instructions = a .instructions; switch-entries = a .switch-entries; land = a .land }; only = d .only }
 
--- and have no more entries than there is room for
-fitting-few : (ls : Lines) (records entries : ℕ) → totalEntries (listOf (fitting records entries ls)) ≤ entries
-unfolding listOf totalEntries
-fitting-few =
-    by-fitting (λ records entries ls fit. totalEntries (listOf fit) ≤ entries)
-    (λ l rest fit records entries room h. omega arith)
-    (λ l rest records entries. omega arith) (λ l rest entries. omega arith) (λ records entries. omega arith) (λ records entries n p. omega arith)
+  why-more : {n : ℕ} {place : CodeOffset} {second : ℕ} → (n ≡ 14 → ⊥) → (n ≡ 15 → ⊥) → Why code pool record-room entry-room n place second → Why code pool record-room′ entry-room′ n place second
+  why-more a b (Why.long-code h is there none) = Why.long-code h is there none
+  why-more a b (Why.long-pool h k is there none) = Why.long-pool h k is there none
+  why-more a b (Why.bad-instruction ls at s inside fault none) = Why.bad-instruction ls at (stored-more s) inside fault none
+  why-more a b (Why.no-entry-left ls l s few is there none) = absurd (a is)
+  why-more a b (Why.no-record-left ls l s room full is there none) = absurd (b is)
+  why-more a b (Why.bad-jump ls s fails) = Why.bad-jump ls (stored-more s) fails
 
--- what fits some room fits any larger
-fits-more : (ls : Lines) (records entries records′ entries′ : ℕ) → records ≤ records′ → entries ≤ entries′ → fitting records entries ls ≡ ls → fitting records′ entries′ ls ≡ ls
-fits-more ls records entries records′ entries′ h k fit =
-    let short : length (listOf ls) ≤ records = subst (λ (x : Lines). length (listOf x) ≤ records) fit (fitting-short ls records entries) in
-    let few : totalEntries (listOf ls) ≤ entries = subst (λ (x : Lines). totalEntries (listOf x) ≤ entries) fit (fitting-few ls records entries) in
-    all-fit ls records′ entries′ (omega arith) (omega arith)
-
-module _ (code pool : List ℕ) (record-room entry-room record-room′ entry-room′ : ℕ) (h : record-room ≤ record-room′) (k : entry-room ≤ entry-room′) where
-  abbrev answer : Decoded
-  answer = answerOf code (fitted code pool record-room entry-room)
-
-  abbrev answer′ : Decoded
-  answer′ = answerOf code (fitted code pool record-room′ entry-room′)
-
-  fits : (r : Run) (c : Checked) → runFrom 0 0 (fitted code pool record-room entry-room) ≡ r → NotForRoom (judged r c) → fitted code pool record-room entry-room ≡ linesOf code pool
-  fits (run.Filled n m) c e room = filled-fits (linesOf code pool) record-room entry-room 0 0 n m e
-  fits (run.Refused n p) c e room =
-      fits-unless (linesOf code pool) record-room entry-room 0 0
-      (λ n′ p′ f.
-      let same : n ≡ n′ = let both : run.Refused n p ≡ run.Refused n′ p′ = sym e ∙ f in cc in
-      (λ q. room .0 (omega (arith, same, q)), λ q. room .1 (omega (arith, same, q))))
-
-  same-answer : Limits code pool answer (limited code pool answer) → NotForRoom (limited code pool answer) → limited code pool answer′ ≡ limited code pool answer
-  same-answer (Limits.within c p e) room =
-      let fit = fits (runFrom 0 0 (fitted code pool record-room entry-room)) _ refl (subst NotForRoom e room) in
-      let larger = fits-more (linesOf code pool) record-room entry-room record-room′ entry-room′ h k fit in
-      both-within code pool answer′ c p ∙ ap (answerOf code) (larger ∙ sym fit) ∙ sym e
-  same-answer (Limits.long-pool c p e) room = over-pool code pool answer′ c p ∙ sym e
-  same-answer (Limits.long-code c e) room = over-code code pool answer′ c ∙ sym e
+  same-answer : (answer : Decoded) → decoding code pool record-room entry-room ≡ answer → NotForRoom answer → decoding code pool record-room′ entry-room′ ≡ answer
+  same-answer (decoded.Accepted k m) e room = demand-2-exactly code pool record-room′ entry-room′ k m .1 (accepted-more (demand-2-exactly code pool record-room entry-room k m .0 e))
+  same-answer (decoded.Refused n place second) e room =
+      refused-exactly code pool record-room′ entry-room′ n place second .1 (why-more (room .0) (room .1) (refused-exactly code pool record-room entry-room n place second .0 e))
 
 pub larger-rooms : LargerRooms
-unfolding decoding
 larger-rooms code pool record-room entry-room record-room′ entry-room′ h k room =
-    same-answer code pool record-room entry-room record-room′ entry-room′ h k (by-limits code pool _ refl) room
+    same-answer code pool record-room entry-room record-room′ entry-room′ h k (decoding code pool record-room entry-room) refl room
 
 -- the used words are the rows of the lines, whatever the store
 front : (row rest rest′ : List ℕ) (n : ℕ) → length row ≡ n → {after after′ : List ℕ} → after ≡ row ++ rest → after′ ≡ row ++ rest′ → take n after′ ≡ take n after

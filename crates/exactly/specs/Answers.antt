@@ -13,8 +13,7 @@ use Rattle.jumps.specs.Jumps.{startsOf}
 use Rattle.jumps.specs.Landing.{AllLand, FirstFailing}
 use Rattle.bytecode.specs.declared.Decoded.the-variants as decoded
 use Rattle.bytecode.specs.Decoding.{codeLimit, poolLimit, decoding}
-use Rattle.exactly.specs.Decode.{totalEntries}
-use Rattle.exactly.specs.Standing.{Standing, linesIn, Cover, jumpsDrawn, allJumpsDrawn}
+use Rattle.exactly.specs.Standing.{Standing, linesIn, totalEntries, Cover, jumpsDrawn, allJumpsDrawn}
 
 abbrev offset : ℕ → CodeOffset
 offset i = record { 0 = i }
@@ -66,8 +65,11 @@ RefusedExactly =
     → (decoding code pool record-room entry-room ≡ decoded.Refused n place second) ↔ Why code pool record-room entry-room n place second
 
 -- So the numbers are 1 to 15, and the second number is 0 but for 12 and 13: proved as `refusal-numbers`
+abbrev pub refusals : List ℕ
+refusals = 1 ∷ 2 ∷ 3 ∷ 4 ∷ 5 ∷ 6 ∷ 7 ∷ 8 ∷ 9 ∷ 10 ∷ 11 ∷ 12 ∷ 13 ∷ 14 ∷ 15 ∷ []
+
 abbrev pub RefusalNumbers : Type 0
 RefusalNumbers =
     (code pool : List ℕ) (record-room entry-room n : ℕ) (place : CodeOffset) (second : ℕ)
     → decoding code pool record-room entry-room ≡ decoded.Refused n place second
-    → In n (1 ∷ 2 ∷ 3 ∷ 4 ∷ 5 ∷ 6 ∷ 7 ∷ 8 ∷ 9 ∷ 10 ∷ 11 ∷ 12 ∷ 13 ∷ 14 ∷ 15 ∷ []) × ((n ≡ 12) ⊎ ((n ≡ 13) ⊎ (second ≡ 0)))
+    → In n refusals × (In n (12 ∷ 13 ∷ []) ⊎ (second ≡ 0))

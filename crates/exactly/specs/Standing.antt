@@ -1,5 +1,5 @@
 -- The instructions of a code with no reader: lines, each with the picture of JVMS 6.5 that stands there.
-use Prim.Native.Nat.{ℕ}
+use Prim.Native.Nat.{ℕ, _+_}
 use mathlib.Core.Bool.{true, false}
 use mathlib.Core.List.{List, [], _∷_, map}
 use mathlib.Core.Path.{_≡_}
@@ -8,6 +8,7 @@ use Rattle.records.specs.declared.SwitchEntry.{SwitchEntry}
 use Rattle.ordinary.specs.declared.Instruction.{Instruction}
 use Rattle.ordinary.specs.declared.Instruction.the-variants as instruction
 use Rattle.instruction.specs.Pictures.{StandsAt}
+use Rattle.instruction.specs.Entries.{entriesOf}
 use Rattle.instruction.specs.Drawn.{drawnEntries}
 use Rattle.lines.specs.Lines.{Line}
 use Rattle.jumps.specs.Jumps.{Jumps}
@@ -20,6 +21,11 @@ pub record Standing (code pool : List ℕ) : Type 0 where
 
 abbrev pub linesIn : {code pool : List ℕ} → List (Standing code pool) → List Line
 linesIn {code} {pool} ls = map (λ (s : Standing code pool). s .line) ls
+
+-- how many switch entries lines have
+unfoldable pub totalEntries : List Line → ℕ
+totalEntries [] = 0
+totalEntries (l ∷ lines) = entriesOf (l .instruction) + totalEntries lines
 
 -- Lines cover the bytes from an offset to an end with no gap and no overlap: each starts where the one before it ends, and the
 -- last ends at the end

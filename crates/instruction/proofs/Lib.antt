@@ -1,6 +1,6 @@
 pub mod Laws
 pub mod Exactly
 pub mod Drawn
-pub mod Refusals
+pub mod Faults
 pub mod Pool
 pub mod Examples

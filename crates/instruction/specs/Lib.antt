@@ -3,5 +3,6 @@ pub mod Names
 pub mod Pictures
 pub mod Entries
 pub mod Theorems
+pub mod Faults
 pub mod Examples
 pub mod Drawn

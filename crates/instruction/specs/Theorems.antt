@@ -1,5 +1,5 @@
 -- A step and the pictures of JVMS 6.5 agree, and where an instruction ends. The proofs are in proofs/Exactly.antt.
-use Prim.Native.Nat.{ℕ, _≤_}
+use Prim.Native.Nat.{ℕ}
 use mathlib.Core.List.{List}
 use mathlib.Core.Logic.{_↔_}
 use mathlib.Core.Path.{_≡_}
@@ -24,11 +24,6 @@ abbrev pub StepWithin : Type 0
 StepWithin =
     (code pool : List ℕ) (at : CodeOffset) (i : Instruction) (next : CodeOffset)
     → stepOf code pool at ≡ step.Decoded i next → Within code at i next
-
--- The refusals of a step are 3 to 11: proved as `step-refuses`, in proofs/Refusals.antt
-abbrev pub StepRefuses : Type 0
-StepRefuses =
-    (code pool : List ℕ) (at : CodeOffset) (n : ℕ) (place : CodeOffset) → stepOf code pool at ≡ step.Refused n place → (3 ≤ n) × (n ≤ 11)
 
 -- Two pool tables that agree on the entries that the instruction at an offset names give the same step: proved as
 -- `step-pool`, in proofs/Pool.antt

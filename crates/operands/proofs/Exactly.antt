@@ -24,7 +24,7 @@ use Rattle.operands.specs.Checks.{signedRead, unlessFault, faultIn, inde
 use Rattle.operands.specs.Pictures.{valueOf, Keeps, Named, Stand}
 use Rattle.operands.specs.Theorems.{Stands, OperandExactly}
 
-clash : (n v : ℕ) (p next : CodeOffset) → read.Refused n p ≡ read.Value v next → ⊥
+pub clash : (n v : ℕ) (p next : CodeOffset) → read.Refused n p ≡ read.Value v next → ⊥
 clash n v p next e = let z : _≡_ {A = ℕ} 0 1 = cc in omega arith
 
 -- a read of n bytes finds exactly the number of those that stand there

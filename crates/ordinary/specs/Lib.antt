@@ -1,3 +1,4 @@
 pub mod Ordinary
 pub mod Pictures
 pub mod Theorems
+pub mod Faults

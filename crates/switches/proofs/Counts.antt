@@ -34,12 +34,12 @@ count-within : (n : ℕ) → n ≤ mostEntries → countOf (pos n) ≡ n
 unfolding countOf
 count-within n h = rw (le-leb _ _ h, countOf)
 
-count-over : (n : ℕ) → mostEntries < n → countOf (pos n) ≡ 0
+pub count-over : (n : ℕ) → mostEntries < n → countOf (pos n) ≡ 0
 unfolding countOf
 count-over n h = rw (lt-leb _ _ h, countOf)
 
 -- one more than a number below zero counts for nothing
-count-below : (k : ℕ) → countOf (negsuc k +ℤ pos 1) ≡ 0
+pub count-below : (k : ℕ) → countOf (negsuc k +ℤ pos 1) ≡ 0
 unfolding countOf
 count-below zero = refl
 count-below (suc k) =

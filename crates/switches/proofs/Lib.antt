@@ -1,4 +1,5 @@
 pub mod Laws
 pub mod Counts
 pub mod Exactly
+pub mod Faults
 pub mod Examples
