@@ -5,3 +5,4 @@ pub mod Deciding
 pub mod Accepted
 pub mod Rows
 pub mod Examples
+pub mod Pinned

@@ -53,7 +53,7 @@ abbrev pub AcceptedMeetsDemand3 : Type 0
 AcceptedMeetsDemand3 =
     (code pool records entries : List ℕ) (k m : ℕ) → decoding code pool records entries ≡ decoded.Accepted k m → Demand3 code pool
 
--- What `decode` promises, where it accepts
+-- What `decode` promises, where it accepts: read off its contract in Promised.antt
 pub record Decodes (code pool records entries : List ℕ) (answer : Decoded) (records′ entries′ : List ℕ) (k m : ℕ) : Type 0 where
   pub answers : answer ≡ decoding code pool records entries
   pub stores-records : records′ ≡ recordsAfter code pool records entries
