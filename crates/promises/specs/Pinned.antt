@@ -1,8 +1,9 @@
 -- Every answer is pinned down: the contract of each published function, of each library, settles what the function does. Any
 -- two outcomes that it allows are equal: the result, and the last contents of everything lent by `&mut`. Each line is over
--- what the checker makes of the contract in src/, so a promise that is weakened or dropped breaks it. A `requires` is no
--- premise: the promises settle the outcome for all arguments. tools/pinned holds the list against the checker's own list of
--- published functions. Proved in proofs/Pinned.antt as `published-pinned`.
+-- what the checker makes of the contract in src/, so a contract that leaves something open breaks it: a promise dropped, or
+-- made weaker, unless the others still settle what it was about. A `requires` is no premise: the promises settle the outcome
+-- for all arguments. tools/pinned holds the list against the checker's own list of published functions. Proved in
+-- proofs/Pinned.antt as `published-pinned`.
 use Rattle.laws.specs.Pinned.{Settles}
 use Rattle.store.proofs as store
 use Rattle.read.proofs as read
