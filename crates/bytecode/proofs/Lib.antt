@@ -6,3 +6,4 @@ pub mod Deciding
 pub mod Accepted
 pub mod Rows
 pub mod Examples
+pub mod Pinned

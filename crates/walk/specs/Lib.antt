@@ -1,4 +1,5 @@
 pub mod Walk
 pub mod Nodes
 pub mod Theorems
+pub mod Promised
 pub mod Examples

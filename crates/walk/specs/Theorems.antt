@@ -54,7 +54,7 @@ abbrev pub AcceptedMeetsDemand3 : Type 0
 AcceptedMeetsDemand3 =
     (code pool : List ℕ) (record-room entry-room k m : ℕ) → decoding code pool record-room entry-room ≡ decoded.Accepted k m → Demand3 code pool
 
--- What `decode` promises, where it accepts
+-- What `decode` promises, where it accepts: read off its contract in Promised.antt
 pub record Decodes (code pool records entries : List ℕ) (answer : Decoded) (records′ entries′ : List ℕ) (k m : ℕ) : Type 0 where
   pub answers : answer ≡ decoding code pool (recordRoom records) (entryRoom entries)
   pub stores-records : records′ ≡ recordsAfter code pool records entries
