@@ -30,7 +30,7 @@ all-kinds = refl
 pub kind-by : {r byte : ℕ} → byte < 256 → r ≡ kindBy byte → r ≡ kindOf byte
 kind-by {r} {byte} small e = e ∙ listed-same kindBy kindOf 256 0 all-kinds byte zero-le (omega arith)
 
-abbrev pub isWideLocal : ℕ → Bool
+abbrev isWideLocal : ℕ → Bool
 isWideLocal byte = (leb 0x15 byte && leb byte 0x19) || (leb 0x36 byte && leb byte 0x3a) || eqb byte 0xa9
 
 unfoldable pub wideFormBy : ℕ → WideForm

@@ -1,5 +1,5 @@
--- JVMS 6.5 from the other side: the bytes of an operand, as the boxes of an instruction's format draw them, and the value
--- that they stand for. Nothing here is read, and nothing has a number or a place of document 01.
+-- JVMS 6.5 from the other side: the bytes of an operand, as the boxes of an instruction's format draw them, the value that
+-- they stand for, and bytes that stand in the code. Nothing here is read, and nothing has a number or a place of document 01.
 use Prim.Native.Nat.{ℕ, _+_, _≤_}
 use mathlib.Core.List.{List, []}
 use mathlib.Core.Path.{_≡_}
