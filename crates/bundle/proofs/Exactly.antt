@@ -8,7 +8,7 @@ use lib.Seq.{length-take-le, drop-drop, take-at, drop-append-seam}
 use Rattle.laws.specs.Bytes.{AreBytes}
 use Rattle.read.specs.Reads.{bytesOf}
 use Rattle.read.proofs.Laws.{read-found}
-use Rattle.read.proofs.Written.{length-bytes, found-exactly}
+use Rattle.read.proofs.Written.{length-bytes, number-read-exactly}
 use Rattle.bundle.specs.declared.Section.{Section}
 use Rattle.bundle.specs.declared.Sections.{Sections}
 use Rattle.bundle.specs.declared.SectionRead.the-variants.{Whole}
@@ -39,7 +39,7 @@ module _ (n : ℕ) (bundle : List ℕ) (at : ℕ) (section : Section) (wide : 0 
       let w = section-whole n bundle at h in
       let size : ℕ = sizeAt n bundle at in
       let start : ℕ = at + n in
-      let number = found-exactly n bundle (record { 0 = at }) size wide are .0 (read-found n bundle (record { 0 = at }) (w .inside)) in
+      let number = number-read-exactly n bundle (record { 0 = at }) size wide are .0 (read-found n bundle (record { 0 = at }) (w .inside)) in
       let found : List ℕ = take size (drop start bundle) in
       let long : length found ≡ size = length-take-le size (drop start bundle) (rw length-drop (w .enough)) in
       let split : drop at bundle ≡ (bytesOf n size ++ found) ++ drop (start + size) bundle =
@@ -52,7 +52,7 @@ module _ (n : ℕ) (bundle : List ℕ) (at : ℕ) (section : Section) (wide : 0 
       let size : ℕ = length (d .bytes) in
       let front : take n (drop at bundle) ≡ bytesOf n size =
       ap (take n) (d .begins ∙ append-assoc (bytesOf n size) (d .bytes) _) ∙ take-at (bytesOf n size) _ n (length-bytes n size) in
-      let number = found-exactly n bundle (record { 0 = at }) size wide are .1 (d .fits, front) in
+      let number = number-read-exactly n bundle (record { 0 = at }) size wide are .1 (d .fits, front) in
       let long = simp (length-append, length-drop, length-bytes) at (ap length (d .begins)) in
       let enough : size ≤ length bundle - (at + n) = omega arith in
       ap (afterLength bundle) number ∙ bytes-fit bundle size (at + n) enough ∙ ap Whole (sym (d .places))

@@ -7,7 +7,7 @@ use read::CodeOffset;
 use records::ENTRY_WORDS;
 use records::RECORD_WORDS;
 use records::RecordIndex;
-use records::wide;
+use records::to_usize;
 ghost use mathlib.Core.Path.{_≡_};
 ghost use Prim.Native.Nat.{_+_, _*_, _^_, _≤_, _<_};
 ghost use lib.ListN.{length};
@@ -84,7 +84,7 @@ fn fill(code: &[u8], pool: &[u8], records: &mut [u32], entries: &mut [u32]) -> R
                 return Run::Refused(number, place);
             }
             Step::Decoded(instruction, next) => {
-                let own = wide(filling::entries_of(instruction));
+                let own = to_usize(filling::entries_of(instruction));
                 if entry_room - stored < own {
                     return Run::Refused(NO_ENTRY_LEFT, CodeOffset(at));
                 }

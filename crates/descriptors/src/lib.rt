@@ -102,7 +102,7 @@ fn object_at(text: &[u8], dimensions: u32, start: usize) -> Field
     }
 }
 
-fn wide(b: u8) -> u32
+fn to_u32(b: u8) -> u32
     ensures { λ r. ⌜ r ≡ b ⌝ }
 {
     b as u32
@@ -118,7 +118,7 @@ fn type_at(text: &[u8], dimensions: u32, at: usize) -> Field
         return object_at(text, dimensions, at + 1);
     }
     if is_base_type(letter) {
-        return Field::Parsed(FieldDescriptor::base(dimensions, wide(letter)), at + 1);
+        return Field::Parsed(FieldDescriptor::base(dimensions, to_u32(letter)), at + 1);
     }
     Field::Refused(NO_SUCH_TYPE, at)
 }

@@ -30,8 +30,8 @@ use Rattle.bytecode.specs.declared.Decoded.the-variants as decoded
 use Rattle.bytecode.specs.Decoding.{codeLimit, poolLimit, fitting, fitted, runFrom, lineJumps, jumpsOf, judged, answerOf, decoding}
 use Rattle.bytecode.proofs.Laws.{fit-line, fit-14, fit-15, not-filled}
 use Rattle.bytecode.proofs.Limits.{over-code, over-pool, both-within, Limits, by-limits}
-use Rattle.exactly.specs.Standing.{Standing, linesIn, totalEntries, Cover, jumpsDrawn, allJumpsDrawn}
-use Rattle.exactly.specs.Answers.{Stored, Accepted, Demand2, Demand2Exactly, Why, RefusedExactly, refusals, RefusalNumbers}
+use Rattle.exactly.specs.Standing.{Standing, linesIn, totalEntries, LinesTile, jumpsDrawn, allJumpsDrawn}
+use Rattle.exactly.specs.Answers.{StoredTo, Accepts, Demand2, Demand2Exactly, Why, RefusedExactly, refusals, RefusalNumbers}
 use Rattle.exactly.proofs.Standing.{onto, list-onto, run-onto, fit-onto, decoded-line, standing-line, lines-are, linesPast, after-line, all-jumps-drawn, count-lines}
 
 abbrev start : CodeOffset
@@ -49,7 +49,7 @@ module _ (code pool : List ℕ) where
   record Course (at : CodeOffset) (k m records entries : ℕ) (r : Run) : Type 0 where
     lines : List (Standing code pool)
     end : CodeOffset
-    cover : Cover at lines end
+    tile : LinesTile at lines end
     records-fit : length lines ≤ records
     entries-fit : totalEntries (linesIn lines) ≤ entries
     counts : (k′ m′ : ℕ) → r ≡ run.Filled k′ m′ → (k′ ≡ k + length lines) × (m′ ≡ m + totalEntries (linesIn lines))
@@ -65,7 +65,7 @@ module _ (code pool : List ℕ) where
       record {
         lines = [];
         end = at;
-        cover = refl;
+        tile = refl;
         records-fit = omega arith;
         entries-fit = omega arith;
         counts = λ k′ m′ e. let n = counts k′ m′ e in (omega (arith, n .0), omega (arith, n .1));
@@ -93,7 +93,7 @@ module _ (code pool : List ℕ) where
         record {
           lines = this ∷ c .lines;
           end = c .end;
-          cover = (e, c .cover);
+          tile = (e, c .tile);
           records-fit = omega (arith, c .records-fit);
           entries-fit = omega arith;
           counts = λ k′ m′ q. let n = c .counts k′ m′ q in (omega (arith, n .0), omega (arith, n .1));
@@ -117,7 +117,7 @@ module _ (code pool : List ℕ) where
       one-line l at k m entries (c .0) (c .2) rest records (λ left. course rest (l .next) (k + 1) (m + entriesOf (l .instruction)) left (entries - entriesOf (l .instruction)) (c .3))
 
 -- Where lines are stored up to an offset, what comes after them decides.
-module _ (code pool : List ℕ) (record-room entry-room : ℕ) (ls : List (Standing code pool)) (end : CodeOffset) (stored : Stored code pool record-room entry-room ls end) where
+module _ (code pool : List ℕ) (record-room entry-room : ℕ) (ls : List (Standing code pool)) (end : CodeOffset) (stored : StoredTo code pool record-room entry-room ls end) where
   abbrev total : ℕ
   total = totalEntries (linesIn ls)
 
@@ -127,7 +127,7 @@ module _ (code pool : List ℕ) (record-room entry-room : ℕ) (ls : List (Stand
 
     fitted-onto : fitted code pool record-room entry-room ≡ onto (linesIn ls) left
     fitted-onto =
-        ap (fitting record-room entry-room) (lines-are code pool ls end rest (stored .cover) c)
+        ap (fitting record-room entry-room) (lines-are code pool ls end rest (stored .tile) c)
         ∙ fit-onto (linesIn ls) rest record-room entry-room (rw (count-lines ls) (stored .records-fit)) (stored .entries-fit)
         ∙ ap (λ (n : ℕ). onto (linesIn ls) (fitting (record-room - n) (entry-room - total) rest)) (count-lines ls)
 
@@ -179,7 +179,7 @@ module _ (code pool : List ℕ) (record-room entry-room : ℕ) where
   -- All lines are stored: the check of their jumps decides
   record Stored-all : Type 0 where
     lines : List (Standing code pool)
-    stored : Stored code pool record-room entry-room lines (record { 0 = length code })
+    stored : StoredTo code pool record-room entry-room lines (record { 0 = length code })
     is : answer ≡ judged (run.Filled (length lines) (totalEntries (linesIn lines))) (check (allJumpsDrawn lines))
 
   module _ (h : length code ≤ codeLimit) (k : length pool ≤ poolLimit) where
@@ -189,19 +189,19 @@ module _ (code pool : List ℕ) (record-room entry-room : ℕ) where
         ls : List (Standing code pool)
         ls = c .lines
 
-        stored : Stored code pool record-room entry-room (c .lines) (c .end)
-        stored = record { short-code = h; short-pool = k; cover = c .cover; records-fit = c .records-fit; entries-fit = c .entries-fit }
+        stored : StoredTo code pool record-room entry-room (c .lines) (c .end)
+        stored = record { short-code = h; short-pool = k; tile = c .tile; records-fit = c .records-fit; entries-fit = c .entries-fit }
 
         by-ending : (r : Run) → Ending code pool (c .end) (record-room - length (c .lines)) (entry-room - totalEntries (linesIn (c .lines))) r → answer ≡ judged r (check (jumpsOf code (fitted code pool record-room entry-room))) → Refusal ⊎ Stored-all
         by-ending (run.Filled k′ m′) (Ending.filled e) q =
             let there : c .end ≡ record { 0 = length code } = ap (λ (i : ℕ). record { 0 = i }) e in
-            inr (record { lines = c .lines; stored = subst (Stored code pool record-room entry-room (c .lines)) there stored; is = all-judged code pool record-room entry-room (c .lines) (c .end) stored e })
+            inr (record { lines = c .lines; stored = subst (StoredTo code pool record-room entry-room (c .lines)) there stored; is = all-judged code pool record-room entry-room (c .lines) (c .end) stored e })
         by-ending (run.Refused n p) (Ending.fault inside e) q =
             inl (record { number = n; place = p; second = 0; why = Why.bad-instruction (c .lines) (c .end) stored inside (step-refused-exactly code pool (c .end) n p .0 e) refl; is = q })
         by-ending (run.Refused n p) (Ending.no-entry s at few is there) q =
-            inl (record { number = n; place = p; second = 0; why = Why.no-entry-left (c .lines) s (subst (Stored code pool record-room entry-room (c .lines)) (sym at) stored) (omega (arith, c .entries-fit)) is (there ∙ sym at) refl; is = q })
+            inl (record { number = n; place = p; second = 0; why = Why.no-entry-left (c .lines) s (subst (StoredTo code pool record-room entry-room (c .lines)) (sym at) stored) (omega (arith, c .entries-fit)) is (there ∙ sym at) refl; is = q })
         by-ending (run.Refused n p) (Ending.no-record s at room none is there) q =
-            inl (record { number = n; place = p; second = 0; why = Why.no-record-left (c .lines) s (subst (Stored code pool record-room entry-room (c .lines)) (sym at) stored) (omega (arith, c .entries-fit)) (omega (arith, c .records-fit)) is (there ∙ sym at) refl; is = q })
+            inl (record { number = n; place = p; second = 0; why = Why.no-record-left (c .lines) s (subst (StoredTo code pool record-room entry-room (c .lines)) (sym at) stored) (omega (arith, c .entries-fit)) (omega (arith, c .records-fit)) is (there ∙ sym at) refl; is = q })
 
     by-course : Refusal ⊎ Stored-all
     unfolding decoding
@@ -214,7 +214,7 @@ module _ (code pool : List ℕ) (record-room entry-room : ℕ) where
   Says (decoded.Accepted k m) = Demand2 code pool record-room entry-room k m
   Says (decoded.Refused n place second) = Why code pool record-room entry-room n place second
 
-  only-lines : (ls others : List (Standing code pool)) → Cover start ls (record { 0 = length code }) → Cover start others (record { 0 = length code }) → linesIn others ≡ linesIn ls
+  only-lines : (ls others : List (Standing code pool)) → LinesTile start ls (record { 0 = length code }) → LinesTile start others (record { 0 = length code }) → linesIn others ≡ linesIn ls
   only-lines ls others h k =
       let same : onto (linesIn others) Lines.end ≡ onto (linesIn ls) Lines.end = sym (lines-are code pool others (record { 0 = length code }) Lines.end k refl) ∙ lines-are code pool ls (record { 0 = length code }) Lines.end h refl in
       sym (list-onto (linesIn others)) ∙ ap listOf same ∙ list-onto (linesIn ls)
@@ -224,7 +224,7 @@ module _ (code pool : List ℕ) (record-room entry-room : ℕ) where
       record {
         lines = a .lines;
         accepted = record { stored = a .stored; instructions = refl; switch-entries = refl; land = drawn-land code pool (a .lines) .0 g };
-        only = λ others h. only-lines (a .lines) others (a .stored .cover) h;
+        only = λ others h. only-lines (a .lines) others (a .stored .tile) h;
       }
   judged-says a (checked.Bad n place second) b = Why.bad-jump (a .lines) (a .stored) (bad-exactly (allJumpsDrawn (a .lines)) n place second .0 b)
 

@@ -20,7 +20,7 @@ use Rattle.jumps.specs.Jumps.{Jumps}
 use Rattle.bytecode.specs.declared.Run.{Run}
 use Rattle.bytecode.specs.Decoding.{fitting, runFrom, jumpWords, lineJumps}
 use Rattle.bytecode.proofs.Laws.{fit-line}
-use Rattle.exactly.specs.Standing.{Standing, linesIn, totalEntries, Cover, jumpsWith, jumpsDrawn, allJumpsDrawn}
+use Rattle.exactly.specs.Standing.{Standing, linesIn, totalEntries, LinesTile, jumpsWith, jumpsDrawn, allJumpsDrawn}
 
 -- lines, and what comes after them
 unfoldable pub onto : List Line → Lines → Lines
@@ -66,13 +66,13 @@ module _ (code pool : List ℕ) where
       let inside : s .line .at .0 < length code = omega (arith, w .longer, w .ends) in
       subst (λ (a : CodeOffset). Consecutive code pool a (Lines.line (s .line) rest)) e (refl, inside, decoded-line s, c)
 
-  consecutive : (ls : List (Standing code pool)) (at end : CodeOffset) (rest : Lines) → Cover at ls end → Consecutive code pool end rest → Consecutive code pool at (onto (linesIn ls) rest)
+  consecutive : (ls : List (Standing code pool)) (at end : CodeOffset) (rest : Lines) → LinesTile at ls end → Consecutive code pool end rest → Consecutive code pool at (onto (linesIn ls) rest)
   unfolding onto
   consecutive [] at end rest e c = subst (λ (a : CodeOffset). Consecutive code pool a rest) (sym e) c
   consecutive (s ∷ ls) at end rest h c = one-before s at (onto (linesIn ls) rest) (h .0) (consecutive ls (s .line .next) end rest (h .1) c)
 
   -- so they are the first lines of the code
-  pub lines-are : (ls : List (Standing code pool)) (end : CodeOffset) (rest : Lines) → Cover (record { 0 = 0 }) ls end → Consecutive code pool end rest → linesOf code pool ≡ onto (linesIn ls) rest
+  pub lines-are : (ls : List (Standing code pool)) (end : CodeOffset) (rest : Lines) → LinesTile (record { 0 = 0 }) ls end → Consecutive code pool end rest → linesOf code pool ≡ onto (linesIn ls) rest
   lines-are ls end rest h c = lines-exactly code pool (onto (linesIn ls) rest) .1 (consecutive ls (record { 0 = 0 }) end rest h c)
 
   -- a line that stands, and what follows it in the code

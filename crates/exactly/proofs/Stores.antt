@@ -15,15 +15,15 @@ use Rattle.bytecode.specs.Rows.{recordRow, entryRow}
 use Rattle.bytecode.proofs.Accepted.{acceptance}
 use Rattle.bytecode.proofs.Rows.{record-words, row-words, accepted-stores}
 use Rattle.exactly.specs.Standing.{Standing}
-use Rattle.exactly.specs.Answers.{Stored, Demand2, Why}
+use Rattle.exactly.specs.Answers.{StoredTo, Demand2, Why}
 use Rattle.exactly.specs.Stores.{NotForRoom, LargerRooms, SameWords}
 use Rattle.exactly.proofs.Answers.{demand-2-exactly, refused-exactly}
 
 -- What holds in some room holds in any larger, but for a refusal for want of room
 module _ (code pool : List ℕ) (record-room entry-room record-room′ entry-room′ : ℕ) (more-records : record-room ≤ record-room′) (more-entries : entry-room ≤ entry-room′) where
-  stored-more : {ls : List (Standing code pool)} {end : CodeOffset} → Stored code pool record-room entry-room ls end → Stored code pool record-room′ entry-room′ ls end
+  stored-more : {ls : List (Standing code pool)} {end : CodeOffset} → StoredTo code pool record-room entry-room ls end → StoredTo code pool record-room′ entry-room′ ls end
   stored-more s =
-      record { short-code = s .short-code; short-pool = s .short-pool; cover = s .cover; records-fit = omega (arith, s .records-fit); entries-fit = omega (arith, s .entries-fit) }
+      record { short-code = s .short-code; short-pool = s .short-pool; tile = s .tile; records-fit = omega (arith, s .records-fit); entries-fit = omega (arith, s .entries-fit) }
 
   accepted-more : {k m : ℕ} → Demand2 code pool record-room entry-room k m → Demand2 code pool record-room′ entry-room′ k m
   accepted-more d =

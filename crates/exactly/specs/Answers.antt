@@ -13,30 +13,30 @@ use Rattle.jumps.specs.Jumps.{startsOf}
 use Rattle.jumps.specs.Landing.{AllLand, FirstFailing}
 use Rattle.bytecode.specs.declared.Decoded.the-variants as decoded
 use Rattle.bytecode.specs.Decoding.{codeLimit, poolLimit, decoding}
-use Rattle.exactly.specs.Standing.{Standing, linesIn, totalEntries, Cover, jumpsDrawn, allJumpsDrawn}
+use Rattle.exactly.specs.Standing.{Standing, linesIn, totalEntries, LinesTile, jumpsDrawn, allJumpsDrawn}
 
 abbrev offset : ℕ → CodeOffset
 offset i = record { 0 = i }
 
 -- Both lengths are within their limits, and lines stand from 0 up to an offset, for which there is room
-pub record Stored (code pool : List ℕ) (record-room entry-room : ℕ) (ls : List (Standing code pool)) (end : CodeOffset) : Type 0 where
+pub record StoredTo (code pool : List ℕ) (record-room entry-room : ℕ) (ls : List (Standing code pool)) (end : CodeOffset) : Type 0 where
   pub short-code : length code ≤ codeLimit
   pub short-pool : length pool ≤ poolLimit
-  pub cover : Cover (offset 0) ls end
+  pub tile : LinesTile (offset 0) ls end
   pub records-fit : length ls ≤ record-room
   pub entries-fit : totalEntries (linesIn ls) ≤ entry-room
 
 -- Demand 2: lines that cover the code, k of them with m entries, all jumps leading to the start of one; and no others do
-pub record Accepted (code pool : List ℕ) (record-room entry-room k m : ℕ) (ls : List (Standing code pool)) : Type 0 where
-  pub stored : Stored code pool record-room entry-room ls (offset (length code))
+pub record Accepts (code pool : List ℕ) (record-room entry-room k m : ℕ) (ls : List (Standing code pool)) : Type 0 where
+  pub stored : StoredTo code pool record-room entry-room ls (offset (length code))
   pub instructions : k ≡ length ls
   pub switch-entries : m ≡ totalEntries (linesIn ls)
   pub land : (s : Standing code pool) → List·Memᴰ s ls → AllLand (startsOf (allJumpsDrawn ls)) (s .line .at) (jumpsDrawn s .words)
 
 pub record Demand2 (code pool : List ℕ) (record-room entry-room k m : ℕ) : Type 0 where
   pub lines : List (Standing code pool)
-  pub accepted : Accepted code pool record-room entry-room k m lines
-  pub only : (others : List (Standing code pool)) → Cover (offset 0) others (offset (length code)) → linesIn others ≡ linesIn lines
+  pub accepted : Accepts code pool record-room entry-room k m lines
+  pub only : (others : List (Standing code pool)) → LinesTile (offset 0) others (offset (length code)) → linesIn others ≡ linesIn lines
 
 -- proved as `demand-2-exactly`
 abbrev pub Demand2Exactly : Type 0
@@ -50,13 +50,13 @@ pub data Why (code pool : List ℕ) (record-room entry-room : ℕ) (n : ℕ) (pl
   long-code : codeLimit < length code → n ≡ 1 → place ≡ offset 0 → second ≡ 0 → Why code pool record-room entry-room n place second
   long-pool : length code ≤ codeLimit → poolLimit < length pool → n ≡ 2 → place ≡ offset 0 → second ≡ 0 → Why code pool record-room entry-room n place second
   -- 3 to 11: after lines that are stored, the code goes on, and the instruction there has a fault of its own
-  bad-instruction : (ls : List (Standing code pool)) (at : CodeOffset) → Stored code pool record-room entry-room ls at → at .0 < length code → StepFault code pool at n place → second ≡ 0 → Why code pool record-room entry-room n place second
+  bad-instruction : (ls : List (Standing code pool)) (at : CodeOffset) → StoredTo code pool record-room entry-room ls at → at .0 < length code → StepFault code pool at n place → second ≡ 0 → Why code pool record-room entry-room n place second
   -- 14: the next line has more entries than there is room left
-  no-entry-left : (ls : List (Standing code pool)) (s : Standing code pool) → Stored code pool record-room entry-room ls (s .line .at) → entry-room < totalEntries (linesIn ls) + entriesOf (s .line .instruction) → n ≡ 14 → place ≡ s .line .at → second ≡ 0 → Why code pool record-room entry-room n place second
+  no-entry-left : (ls : List (Standing code pool)) (s : Standing code pool) → StoredTo code pool record-room entry-room ls (s .line .at) → entry-room < totalEntries (linesIn ls) + entriesOf (s .line .instruction) → n ≡ 14 → place ≡ s .line .at → second ≡ 0 → Why code pool record-room entry-room n place second
   -- 15: its entries have room, and no record is left
-  no-record-left : (ls : List (Standing code pool)) (s : Standing code pool) → Stored code pool record-room entry-room ls (s .line .at) → totalEntries (linesIn ls) + entriesOf (s .line .instruction) ≤ entry-room → length ls ≡ record-room → n ≡ 15 → place ≡ s .line .at → second ≡ 0 → Why code pool record-room entry-room n place second
+  no-record-left : (ls : List (Standing code pool)) (s : Standing code pool) → StoredTo code pool record-room entry-room ls (s .line .at) → totalEntries (linesIn ls) + entriesOf (s .line .instruction) ≤ entry-room → length ls ≡ record-room → n ≡ 15 → place ≡ s .line .at → second ≡ 0 → Why code pool record-room entry-room n place second
   -- 12, 13: all lines are stored, and this is the first jump that fails
-  bad-jump : (ls : List (Standing code pool)) → Stored code pool record-room entry-room ls (offset (length code)) → FirstFailing (allJumpsDrawn ls) n place second → Why code pool record-room entry-room n place second
+  bad-jump : (ls : List (Standing code pool)) → StoredTo code pool record-room entry-room ls (offset (length code)) → FirstFailing (allJumpsDrawn ls) n place second → Why code pool record-room entry-room n place second
 
 -- proved as `refused-exactly`
 abbrev pub RefusedExactly : Type 0

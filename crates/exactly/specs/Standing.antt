@@ -29,9 +29,9 @@ totalEntries (l ∷ lines) = entriesOf (l .instruction) + totalEntries lines
 
 -- Lines cover the bytes from an offset to an end with no gap and no overlap: each starts where the one before it ends, and the
 -- last ends at the end
-abbrev pub Cover : {code pool : List ℕ} → CodeOffset → List (Standing code pool) → CodeOffset → Type 0
-Cover at [] end = at ≡ end
-Cover at (s ∷ ls) end = (s .line .at ≡ at) × Cover (s .line .next) ls end
+abbrev pub LinesTile : {code pool : List ℕ} → CodeOffset → List (Standing code pool) → CodeOffset → Type 0
+LinesTile at [] end = at ≡ end
+LinesTile at (s ∷ ls) end = (s .line .at ≡ at) × LinesTile (s .line .next) ls end
 
 -- JVMS 6.5: the jumps of an instruction with these entries, its own or a switch's default and then those of the entries
 abbrev pub jumpsWith : List SwitchEntry → Instruction → List ℕ

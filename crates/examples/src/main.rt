@@ -8,7 +8,7 @@ use libc::STDOUT_FILENO;
 use lookup::Found;
 use methods::Method;
 use read::CodeOffset;
-use records::wide;
+use records::to_usize;
 ghost use Prim.Native.Nat.{_≤_};
 
 // How many `show_example` knows.
@@ -28,7 +28,7 @@ fn print_words(label: &[u8], words: &[u32]) {
     print(label);
     let mut i = 0;
     while i < words.len() {
-        print_number(b"", wide(words[i]));
+        print_number(b"", to_usize(words[i]));
         i += 1;
     }
 }
@@ -55,7 +55,7 @@ fn print_text(label: &[u8], text: &[u8]) {
 }
 
 fn print_refusal(number: u32, place: usize) {
-    print_number(b": refused", wide(number));
+    print_number(b": refused", to_usize(number));
     print_number(b" at", place);
 }
 
@@ -67,7 +67,7 @@ fn print_decoded(answer: Decoded) {
         }
         Decoded::Refused(number, place, second) => {
             print_refusal(number, place.0);
-            print_number(b" second", wide(second));
+            print_number(b" second", to_usize(second));
         }
     }
 }

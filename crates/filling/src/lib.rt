@@ -1,12 +1,12 @@
 // An instruction written into the two lent stores: its record, and a switch's entries.
 use ordinary::Instruction;
 use read::CodeOffset;
-use records::LOOKUP_SWITCH;
+use records::LOOKUP_SWITCH_KIND;
 use records::Record;
 use records::RecordIndex;
 use records::SwitchEntry;
-use records::TABLE_SWITCH;
-use records::wide;
+use records::TABLE_SWITCH_KIND;
+use records::to_usize;
 ghost use mathlib.Core.Path.{_≡_};
 ghost use Prim.Native.Nat.{_+_, _*_, _^_, _≤_, _<_};
 ghost use lib.ListN.{length};
@@ -45,7 +45,7 @@ pub fn record_of(at: CodeOffset, first: RecordIndex, instruction: Instruction) -
         },
         Instruction::TableSwitch(default, low, high, _, _) => Record {
             offset,
-            kind: TABLE_SWITCH,
+            kind: TABLE_SWITCH_KIND,
             a: default,
             b: low,
             c: high,
@@ -53,7 +53,7 @@ pub fn record_of(at: CodeOffset, first: RecordIndex, instruction: Instruction) -
         },
         Instruction::LookupSwitch(default, _, count) => Record {
             offset,
-            kind: LOOKUP_SWITCH,
+            kind: LOOKUP_SWITCH_KIND,
             a: default,
             b: count,
             c: 0,
@@ -63,12 +63,19 @@ pub fn record_of(at: CodeOffset, first: RecordIndex, instruction: Instruction) -
 }
 
 // The entries of a table: so many jumps from an offset of the code on, the first with the key low and each with the next.
-fn put_table(code: &[u8], low: u32, from: CodeOffset, count: u32, entries: &mut [u32], first: RecordIndex)
+fn put_table(
+    code: &[u8],
+    low: u32,
+    from: CodeOffset,
+    count: u32,
+    entries: &mut [u32],
+    first: RecordIndex,
+)
     requires { ⌜ (from .0 + 4 * count ≤ length (now code)) × (first .0 + count ≤ entryRoom (now entries)) ⌝ }
     ensures { λ _. ⌜ now (entries .exit) ≡ sets (now (entries .entry)) (first .0 * entryWords) (allEntryWords (tableFrom (now (code .entry)) low from count)) ⌝ }
 {
-    let number = wide(count);
-    let mut key = wide(low);
+    let number = to_usize(count);
+    let mut key = to_usize(low);
     let mut at = from.0;
     let mut i = 0;
     while i < number {
@@ -88,7 +95,7 @@ fn put_pairs(code: &[u8], from: CodeOffset, count: u32, entries: &mut [u32], fir
     requires { ⌜ (from .0 + 8 * count ≤ length (now code)) × (first .0 + count ≤ entryRoom (now entries)) ⌝ }
     ensures { λ _. ⌜ now (entries .exit) ≡ sets (now (entries .entry)) (first .0 * entryWords) (allEntryWords (pairsFrom (now (code .entry)) from count)) ⌝ }
 {
-    let number = wide(count);
+    let number = to_usize(count);
     let mut at = from.0;
     let mut i = 0;
     while i < number {

@@ -10,7 +10,7 @@ use output::Output;
 use records::Record;
 use records::RecordIndex;
 use records::SwitchEntry;
-use records::wide;
+use records::to_usize;
 ghost use mathlib.Core.Path.{_≡_};
 ghost use Prim.Native.Nat.{_+_, _≤_, _<_};
 ghost use lib.ListN.{length};
@@ -138,7 +138,7 @@ fn show_entries(offset: u32, entries: &[u32], first: usize, number: u32)
     while i < number {
         show_entry(
             offset,
-            records::entry_at(entries, RecordIndex(first + wide(i))),
+            records::entry_at(entries, RecordIndex(first + to_usize(i))),
         );
         i += 1;
     }
@@ -153,7 +153,7 @@ fn show_instruction(code: &[u8], pool: &[u8], entries: &[u32], stored: Record)
     show_entries(
         stored.offset,
         entries,
-        wide(stored.d),
+        to_usize(stored.d),
         jumps::stored_entries(stored),
     );
 }

@@ -13,10 +13,10 @@ use Rattle.ordinary.specs.declared.Instruction.{Instruction}
 use Rattle.switches.specs.Entries.{entriesIn}
 use Rattle.switches.proofs.Exactly.{table-entries-drawn, lookup-entries-drawn}
 use Rattle.instruction.specs.Pictures.{Follows, StandsAt}
-use Rattle.instruction.specs.Drawn.{entriesAfter, drawnEntries, EntriesDrawn}
+use Rattle.instruction.specs.Drawn.{drawnAfter, drawnEntries, EntriesDrawn}
 use Rattle.instruction.proofs.Exactly.{step-exactly}
 
-read-after : (code : List ℕ) (kind : ℕ) (at : CodeOffset) (l : Layout) (i : Instruction) (bytes : List ℕ) (p : Follows kind at l i bytes) → Stand code at bytes → entriesIn code i ≡ entriesAfter kind at l i bytes p
+read-after : (code : List ℕ) (kind : ℕ) (at : CodeOffset) (l : Layout) (i : Instruction) (bytes : List ℕ) (p : Follows kind at l i bytes) → Stand code at bytes → entriesIn code i ≡ drawnAfter kind at l i bytes p
 read-after code kind at (Layout.operands os) i bytes p s = ap (entriesIn code) (p .is)
 read-after code kind at Layout.wide i bytes p s = ap (entriesIn code) (p .picture .is)
 read-after code kind at Layout.tableSwitch i bytes p s = table-entries-drawn code at i bytes p s

@@ -17,15 +17,15 @@ use Rattle.instruction.specs.Steps.{stepOf}
 use Rattle.instruction.specs.Pictures.{Follows, Picture, StandsAt}
 
 -- only a switch has any
-abbrev pub entriesAfter : (kind : ℕ) (at : CodeOffset) (l : Layout) (i : Instruction) (bytes : List ℕ) → Follows kind at l i bytes → List SwitchEntry
-entriesAfter kind at (Layout.operands os) i bytes p = []
-entriesAfter kind at Layout.wide i bytes p = []
-entriesAfter kind at Layout.tableSwitch i bytes p = p .entries
-entriesAfter kind at Layout.lookupSwitch i bytes p = p .entries
-entriesAfter kind at Layout.none i bytes p = absurd p
+abbrev pub drawnAfter : (kind : ℕ) (at : CodeOffset) (l : Layout) (i : Instruction) (bytes : List ℕ) → Follows kind at l i bytes → List SwitchEntry
+drawnAfter kind at (Layout.operands os) i bytes p = []
+drawnAfter kind at Layout.wide i bytes p = []
+drawnAfter kind at Layout.tableSwitch i bytes p = p .entries
+drawnAfter kind at Layout.lookupSwitch i bytes p = p .entries
+drawnAfter kind at Layout.none i bytes p = absurd p
 
 abbrev pub drawnEntries : {at : CodeOffset} {i : Instruction} {bytes : List ℕ} → Picture at i bytes → List SwitchEntry
-drawnEntries {at} {i} {bytes} p = entriesAfter (kindOf (p .opcode)) (after 1 at) (layoutOf (formatOf (p .opcode))) i (p .rest) (p .follows)
+drawnEntries {at} {i} {bytes} p = drawnAfter (kindOf (p .opcode)) (after 1 at) (layoutOf (formatOf (p .opcode))) i (p .rest) (p .follows)
 
 -- Of a decoded instruction these entries are read exactly where the picture that stands there has them: proved as
 -- `entries-drawn`

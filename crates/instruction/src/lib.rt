@@ -12,7 +12,7 @@ ghost use Rattle.opcodes.specs.Operands.{layoutOf};
 ghost use Rattle.instruction.specs.Steps.{laidOut, stepOf};
 
 // Document 01's refusal of a byte that is no instruction.
-pub const NO_INSTRUCTION: u32 = 4;
+pub const NOT_AN_INSTRUCTION: u32 = 4;
 
 // The instruction of a format and a kind, whose opcode stands at a place and whose operands start at an offset.
 fn format_step(
@@ -47,7 +47,7 @@ fn format_step(
         Format::Wide => ordinary::wide_step(code, at),
         Format::TableSwitch => switches::table_step(code, at),
         Format::LookupSwitch => switches::lookup_step(code, at),
-        Format::NoInstruction => Step::Refused(NO_INSTRUCTION, place),
+        Format::NoInstruction => Step::Refused(NOT_AN_INSTRUCTION, place),
     }
 }
 

@@ -1,11 +1,11 @@
 // The check of the stored jumps, as `validate_jumps` of cafebabe's bytecode.rs. The instruction of a record and where its
 // jumps lead are told by the words of the two stores alone.
 use read::CodeOffset;
-use records::LOOKUP_SWITCH;
+use records::LOOKUP_SWITCH_KIND;
 use records::Record;
 use records::RecordIndex;
-use records::TABLE_SWITCH;
-use records::wide;
+use records::TABLE_SWITCH_KIND;
+use records::to_usize;
 ghost use mathlib.Core.Path.{_≡_};
 ghost use Prim.Native.Nat.{_+_, _^_, _≤_, _<_};
 ghost use Rattle.laws.specs.Listed.{listed};
@@ -36,7 +36,7 @@ fn target_of(at: CodeOffset, jump: u32) -> Target
     requires { ⌜ at .0 < 2 ^ 32 ⌝ }
     ensures { λ r. ⌜ r ≡ placed (targetOf at jump) ⌝ }
 {
-    let sum = at.0 + wide(jump);
+    let sum = at.0 + to_usize(jump);
     if jump < 0x8000_0000 {
         return Target::At(CodeOffset(sum));
     }
@@ -76,7 +76,7 @@ fn check_entries(
 {
     let mut i = 0;
     while i < number {
-        let entry = records::entry_at(entries, RecordIndex(first.0 + wide(i)));
+        let entry = records::entry_at(entries, RecordIndex(first.0 + to_usize(i)));
         let checked = check_jump(records, count, at, entry.jump, i + 1);
         let Checked::Good = checked else {
             return checked;
@@ -91,7 +91,7 @@ fn has_jump(kind: u32) -> bool
     ensures { λ r. ⌜ r ≡ hasJump kind ⌝ }
 {
     ((0x99 <= kind) & (kind <= 0xa8))
-        | ((TABLE_SWITCH <= kind) & (kind <= LOOKUP_SWITCH))
+        | ((TABLE_SWITCH_KIND <= kind) & (kind <= LOOKUP_SWITCH_KIND))
         | ((0xc6 <= kind) & (kind <= 0xc7))
 }
 
@@ -99,10 +99,10 @@ fn has_jump(kind: u32) -> bool
 pub fn stored_entries(stored: Record) -> u32
     ensures { λ r. ⌜ r ≡ storedEntries stored ⌝ }
 {
-    if stored.kind == TABLE_SWITCH {
+    if stored.kind == TABLE_SWITCH_KIND {
         return switches::entry_count(stored.b, stored.c);
     }
-    if stored.kind == LOOKUP_SWITCH {
+    if stored.kind == LOOKUP_SWITCH_KIND {
         return stored.b;
     }
     0
@@ -114,7 +114,7 @@ fn check_record(records: &&[u32], count: usize, entries: &[u32], stored: Record)
     ensures { λ r. ⌜ r ≡ jumpsCheck (offsetsOf (now (now (records .entry))) count) (storedJumps (now (entries .entry)) stored) ⌝ }
 {
     if has_jump(stored.kind) {
-        let at = CodeOffset(wide(stored.offset));
+        let at = CodeOffset(to_usize(stored.offset));
         let own = check_jump(records, count, at, stored.a, 0);
         let Checked::Good = own else {
             return own;
@@ -124,7 +124,7 @@ fn check_record(records: &&[u32], count: usize, entries: &[u32], stored: Record)
             count,
             entries,
             at,
-            RecordIndex(wide(stored.d)),
+            RecordIndex(to_usize(stored.d)),
             stored_entries(stored),
         );
     }

@@ -18,7 +18,7 @@ use Rattle.pool.specs.declared.Kinds.{Kinds}
 use Rattle.pool.specs.declared.Entry.{Entry}
 use Rattle.pool.specs.declared.Entry.the-variants as entry
 use Rattle.pool.specs.Entries.{entryOfKind, HasKind}
-use Rattle.pool.proofs.Exactly.{found-exactly, two-refusals}
+use Rattle.pool.proofs.Exactly.{entry-found-exactly, two-refusals}
 use Rattle.opcodes.specs.Operands.{Meaning, Operand}
 use Rattle.operands.specs.Checks.{signedRead, unlessFault, faultIn, indexFault, zeroFault, isArrayTag, arrayTagFault, meant, operandAt}
 use Rattle.operands.specs.Pictures.{valueOf, Keeps, Named, Stand}
@@ -76,10 +76,10 @@ pub record Means (pool : List ℕ) (n : ℕ) (meaning : Meaning) (found : Read) 
   pub named : Named pool (Operand.bytes n meaning) v
 
 index-fault : (pool : List ℕ) (kinds : Kinds) (v : ℕ) → (indexFault pool kinds v ≡ 0) ↔ HasKind pool kinds v
-index-fault pool kinds v = (λ e. to (entryOfKind pool kinds v) refl e, λ h. ap faultIn (found-exactly pool kinds v (getD pool v 0) .1 (h, refl)))
+index-fault pool kinds v = (λ e. to (entryOfKind pool kinds v) refl e, λ h. ap faultIn (entry-found-exactly pool kinds v (getD pool v 0) .1 (h, refl)))
   where
     to : (e : Entry) → entryOfKind pool kinds v ≡ e → faultIn (entryOfKind pool kinds v) ≡ 0 → HasKind pool kinds v
-    to (entry.Found tag) q e = found-exactly pool kinds v tag .0 q .0
+    to (entry.Found tag) q e = entry-found-exactly pool kinds v tag .0 q .0
     to (entry.Refused n) q e =
         let none : n ≡ 0 = ap faultIn (sym q) ∙ e in
         absurd (⊎-elim (λ six. omega arith) (λ seven. omega arith) (two-refusals pool kinds v n q))

@@ -15,7 +15,7 @@ use Rattle.pool.specs.declared.Entry.{Entry}
 use Rattle.pool.specs.declared.Entry.the-variants as entry
 use Rattle.pool.specs.Tags.{tagsOf, allowsTag}
 use Rattle.pool.specs.Entries.{entryAt, ofKind, entryOfKind, HasKind}
-use Rattle.pool.specs.Theorems.{FoundExactly, NoEntryExactly, WrongKindExactly, TwoRefusals}
+use Rattle.pool.specs.Theorems.{EntryFoundExactly, NoEntryExactly, WrongKindExactly, TwoRefusals}
 
 -- the kind check after a lookup that answered e
 module _ (kinds : Kinds) {e : Entry} where
@@ -84,8 +84,8 @@ module _ {e : Entry} where
   other-number : {n m : ℕ} → e ≡ entry.Refused n → e ≡ entry.Refused m → n ≡ m
   other-number p q = cc
 
-pub found-exactly : FoundExactly
-found-exactly pool kinds index tag = (λ e. to e (verdict pool kinds index), λ h. from h (verdict pool kinds index))
+pub entry-found-exactly : EntryFoundExactly
+entry-found-exactly pool kinds index tag = (λ e. to e (verdict pool kinds index), λ h. from h (verdict pool kinds index))
   where
     to : entryOfKind pool kinds index ≡ entry.Found tag → Verdict pool kinds index → HasKind pool kinds index × (tag ≡ getD pool index 0)
     to e (none h q) = absurd (not-found q e)

@@ -10,9 +10,9 @@ use Rattle.pool.specs.declared.Entry.the-variants as entry
 use Rattle.pool.specs.Tags.{tagsOf}
 use Rattle.pool.specs.Entries.{HasKind, entryOfKind}
 
--- proved as `found-exactly`
-abbrev pub FoundExactly : Type 0
-FoundExactly =
+-- proved as `entry-found-exactly`
+abbrev pub EntryFoundExactly : Type 0
+EntryFoundExactly =
     (pool : List ℕ) (kinds : Kinds) (index tag : ℕ)
     → (entryOfKind pool kinds index ≡ entry.Found tag) ↔ (HasKind pool kinds index × (tag ≡ getD pool index 0))
 

@@ -115,7 +115,7 @@ pub record PublishedPinned : Type 0 where
   pub step : Settles instruction.step.ended instruction.step.Reads.Learnt
   pub instruction-at : Settles instruction.instruction_at.ended instruction.instruction_at.Reads.Learnt
   -- records
-  pub wide : Settles records.wide.ended records.wide.Reads.Learnt
+  pub to-usize : Settles records.to_usize.ended records.to_usize.Reads.Learnt
   pub put-record : Settles records.put_record.ended records.put_record.Reads.Learnt
   pub record-at : Settles records.record_at.ended records.record_at.Reads.Learnt
   pub offset-at : Settles records.offset_at.ended records.offset_at.Reads.Learnt

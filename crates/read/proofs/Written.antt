@@ -15,7 +15,7 @@ use Rattle.laws.proofs.Lists.{in-take, in-drop}
 use Rattle.read.proofs.Laws.{read-past, read-found}
 use Rattle.read.specs.Reads.{bigEndian, bytesOf, bytesAt, after, readOf}
 use Rattle.read.specs.declared.Read.the-variants.{Value}
-use Rattle.read.specs.Theorems.{FoundExactly}
+use Rattle.read.specs.Theorems.{NumberReadExactly}
 
 pub length-bytes : (n v : ℕ) → length (bytesOf n v) ≡ n
 unfolding bytesOf
@@ -46,8 +46,8 @@ bytes-of-number (b ∷ s) h =
     let rest = below s (λ x m. h x (List·Memᴰ·tail m)) in
     rw (digits-div b rest, digits-mod b rest, bytes-of-number s (λ x m. h x (List·Memᴰ·tail m)))
 
-pub found-exactly : FoundExactly
-found-exactly n code at v p bytes = (λ h. go h (leb (at .0 + n) (length code)) refl, from)
+pub number-read-exactly : NumberReadExactly
+number-read-exactly n code at v p bytes = (λ h. go h (leb (at .0 + n) (length code)) refl, from)
   where
     there : List ℕ
     there = bytesAt n code (at .0)

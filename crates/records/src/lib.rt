@@ -16,9 +16,9 @@ pub const RECORD_WORDS: usize = 6;
 pub const ENTRY_WORDS: usize = 2;
 
 // The kinds of the two switches, whose records have entries.
-pub const TABLE_SWITCH: u32 = 0xaa;
+pub const TABLE_SWITCH_KIND: u32 = 0xaa;
 
-pub const LOOKUP_SWITCH: u32 = 0xab;
+pub const LOOKUP_SWITCH_KIND: u32 = 0xab;
 
 pub struct Record {
     pub offset: u32,
@@ -35,7 +35,7 @@ pub struct SwitchEntry {
 }
 
 // A word as an offset, an index or a count of the machine's own width.
-pub fn wide(word: u32) -> usize
+pub fn to_usize(word: u32) -> usize
     ensures { λ r. ⌜ r ≡ word ⌝ }
 {
     word as usize
@@ -75,7 +75,7 @@ pub fn offset_at(records: &[u32], index: RecordIndex) -> CodeOffset
     ensures { λ r. ⌜ r ≡ offsetAt (now (records .entry)) index ⌝ }
 {
     let at = index.0 * RECORD_WORDS;
-    CodeOffset(wide(records[at]))
+    CodeOffset(to_usize(records[at]))
 }
 
 pub fn put_entry(entries: &mut [u32], index: RecordIndex, value: SwitchEntry)

@@ -121,7 +121,7 @@ module _ (code : List ℕ) where
       let same : word + 1 + i ≡ word + (1 + i) = omega arith in
       ap (λ (n : ℕ). n % 2 ^ 32) same ∙ k (1 + i) ∙ ap wordOf (sym (+ℤ-assoc key (pos 1) (pos i) ∙ ap (λ (z : ℤ). key +ℤ z) (pos-+ℤ-pos 1 i)))
 
-  record Drawn (Entries : List SwitchEntry → List ℕ → Type 0) (es : List SwitchEntry) (at : CodeOffset) : Type 0 where
+  record EntriesStand (Entries : List SwitchEntry → List ℕ → Type 0) (es : List SwitchEntry) (at : CodeOffset) : Type 0 where
     bytes : List ℕ
     drawn : Entries es bytes
     stand : Stand code at bytes
@@ -136,7 +136,7 @@ module _ (code : List ℕ) where
         λ rest r. stand-join code at (bytesAt 4 code (at .0)) rest (s .1) (subst (λ (k : ℕ). Stand code (after k at) rest) (sym (s .0)) r),
       )
 
-  table-there : (count word : ℕ) (key : ℤ) (at : CodeOffset) → at .0 + 4 * count ≤ length code → Keyed word key → Drawn (TableEntries key) (tableFrom code word at count) at
+  table-there : (count word : ℕ) (key : ℤ) (at : CodeOffset) → at .0 + 4 * count ≤ length code → Keyed word key → EntriesStand (TableEntries key) (tableFrom code word at count) at
   unfolding tableFrom
   table-there zero word key at h k = record { bytes = []; drawn = TableEntries.none; stand = no-bytes at (omega arith) }
   table-there (suc count) word key at h k =
@@ -149,7 +149,7 @@ module _ (code : List ℕ) where
         stand = one .1 (more .bytes) (more .stand);
       }
 
-  pairs-there : (count : ℕ) (at : CodeOffset) → at .0 + 8 * count ≤ length code → Drawn LookupEntries (pairsFrom code at count) at
+  pairs-there : (count : ℕ) (at : CodeOffset) → at .0 + 8 * count ≤ length code → EntriesStand LookupEntries (pairsFrom code at count) at
   unfolding pairsFrom
   pairs-there zero at h = record { bytes = []; drawn = LookupEntries.none; stand = no-bytes at (omega arith) }
   pairs-there (suc count) at h =

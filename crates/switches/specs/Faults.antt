@@ -89,13 +89,13 @@ pub data LookupFault (code : List ℕ) (at : CodeOffset) (n : ℕ) (place : Code
   pair-short : (o : LookupOpening code at) (count : ℕ) → signedOf (bigEndian (o .npairs)) ≡ pos count → WordsShort code (after 8 (o .start)) (2 * count) n place → LookupFault code at n place
 
 -- refused exactly for its fault
-abbrev RefusedExactly : (List ℕ → CodeOffset → Step) → (List ℕ → CodeOffset → ℕ → CodeOffset → Type 0) → Type 0
-RefusedExactly stepOf Fault =
+abbrev FaultExactly : (List ℕ → CodeOffset → Step) → (List ℕ → CodeOffset → ℕ → CodeOffset → Type 0) → Type 0
+FaultExactly stepOf Fault =
     (code : List ℕ) (at : CodeOffset) (n : ℕ) (place : CodeOffset) → (stepOf code at ≡ step.Refused n place) ↔ Fault code at n place
 
 -- proved as `table-refused-exactly`, `lookup-refused-exactly`
 abbrev pub TableRefusedExactly : Type 0
-TableRefusedExactly = RefusedExactly tableStep TableFault
+TableRefusedExactly = FaultExactly tableStep TableFault
 
 abbrev pub LookupRefusedExactly : Type 0
-LookupRefusedExactly = RefusedExactly lookupStep LookupFault
+LookupRefusedExactly = FaultExactly lookupStep LookupFault

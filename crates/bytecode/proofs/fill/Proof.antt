@@ -32,7 +32,7 @@ returns-2 c =
     let i = c .before .before .before .before in
     let s = i .before .before in
     let l = s .before .before .before in
-    let own = c .before .wide .ensures ∙ c .before .before .entries-of .ensures in
+    let own = c .before .to-usize .ensures ∙ c .before .before .entries-of .ensures in
     fill-14 _ _ _ _ _ _ _ _ _ (l .loop .inv .2) (s .before .before .loop-test .taken) _ _ (sym (s .step .ensures) ∙ i .instruction .given .1) (rw own at (c .if1 .taken))
 
 returns-3 : tie.Need-returns-3 Inv-loop μ-loop
@@ -41,7 +41,7 @@ returns-3 c =
     let i = w .before .before .before in
     let s = i .before .before in
     let l = s .before .before .before in
-    let own = w .wide .ensures ∙ w .before .entries-of .ensures in
+    let own = w .to-usize .ensures ∙ w .before .entries-of .ensures in
     fill-15 _ _ _ _ _ _ _ _ _ (l .loop .inv .2) (s .before .before .loop-test .taken) _ _ (sym (s .step .ensures) ∙ i .instruction .given .1) (rw own at (c .before .if1 .left)) (c .if2 .taken)
 
 put-line-requires : tie.Need-put-line-requires Inv-loop μ-loop
@@ -51,7 +51,7 @@ put-line-requires c κs =
     let i = w .before .before .before in
     let s = i .before .before in
     let l = s .before .before .before in
-    let own = w .wide .ensures ∙ w .before .entries-of .ensures in
+    let own = w .to-usize .ensures ∙ w .before .entries-of .ensures in
     let f = l .loop .inv .2 in
     let decoded = sym (s .step .ensures) ∙ i .instruction .given .1 in
     let within = step-within _ _ _ _ _ decoded in
@@ -83,7 +83,7 @@ loop-again c =
     let i = w .before .before .before in
     let s = i .before .before in
     let l = s .before .before .before in
-    let own = w .wide .ensures ∙ w .before .entries-of .ensures in (
+    let own = w .to-usize .ensures ∙ w .before .entries-of .ensures in (
       refl,
       refl,
       rw (p .put-line .ensures .0, p .put-line .ensures .1, own)

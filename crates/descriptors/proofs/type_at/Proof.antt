@@ -10,7 +10,7 @@ returns c = c .object-at .ensures ∙ sym (object-letter _ _ _ _ (c .before .if1
 returns-2 : tie.Need-returns-2
 returns-2 c =
     let r = c .before .before .before in
-    rw (c .base .ensures, c .before .wide .ensures) (sym (base-letter _ _ _ _ (r .before .if1 .left) (sym (r .is-base-type .ensures) ∙ c .before .before .if2 .taken)))
+    rw (c .base .ensures, c .before .to-u32 .ensures) (sym (base-letter _ _ _ _ (r .before .if1 .left) (sym (r .is-base-type .ensures) ∙ c .before .before .if2 .taken)))
 
 returns-3 : tie.Need-returns-3
 returns-3 c = sym (no-letter _ _ _ _ (c .before .before .if1 .left) (sym (c .before .is-base-type .ensures) ∙ c .if2 .left))

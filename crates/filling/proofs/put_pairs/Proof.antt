@@ -15,7 +15,7 @@ abbrev μ-loop : tie.MeasureT-loop
 μ-loop code count entries₀ first number at₀ i₀ entries at i = number - i
 
 loop-holds : tie.Need-loop-holds Inv-loop μ-loop
-loop-holds c = (omega arith, filled-none _ _ _ _ (rw (c .wide .ensures)))
+loop-holds c = (omega arith, filled-none _ _ _ _ (rw (c .to-usize .ensures)))
 
 put-entry-requires : tie.Need-put-entry-requires Inv-loop μ-loop
 put-entry-requires c κs = omega (arith, c .before .before .before .before .before .loop .inv .1 .kept)

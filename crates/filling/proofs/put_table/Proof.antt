@@ -15,7 +15,7 @@ abbrev μ-loop : tie.MeasureT-loop
 μ-loop code low count entries₀ first number key₀ at₀ i₀ entries key at i = number - i
 
 loop-holds : tie.Need-loop-holds Inv-loop μ-loop
-loop-holds c = (omega arith, omega arith, filled-none _ _ _ _ (rw (c .wide2 .ensures, c .before .wide .ensures)))
+loop-holds c = (omega arith, omega arith, filled-none _ _ _ _ (rw (c .to-usize2 .ensures, c .before .to-usize .ensures)))
 
 put-entry-requires : tie.Need-put-entry-requires Inv-loop μ-loop
 put-entry-requires c κs = omega (arith, c .before .before .before .before .loop .inv .2 .kept)
