@@ -1,6 +1,6 @@
 -- What an acceptance means: both lengths are within their limits, all instructions have room, the code ends with the last
 -- of them, and every jump lands. The stores then tell the jumps of these instructions.
-use Prim.Native.Nat.{ℕ, _+_, _-_, _≤_}
+use Prim.Native.Nat.{ℕ, _+_, _≤_}
 use mathlib.Core.List.{List}
 use mathlib.Core.Path.{_≡_, refl, sym, ap, ap₂, _∙_, subst}
 use native.Mathlib.Omega.{arith}

@@ -1,5 +1,5 @@
 -- Lines are stored in a row.
-use Prim.Native.Nat.{ℕ, suc, _+_, _-_, _*_, _≤_}
+use Prim.Native.Nat.{ℕ, suc, _+_, _*_, _≤_}
 use mathlib.Core.List.{List, [], _∷_, _++_}
 use mathlib.Core.Path.{_≡_, refl, ap, _∙_}
 use native.Mathlib.Nat.{add-zero}

@@ -31,8 +31,8 @@ use Rattle.bytecode.specs.Decoding.{codeLimit, poolLimit, fitting, fitted, runF
 use Rattle.bytecode.proofs.Laws.{fit-line, fit-14, fit-15, not-filled}
 use Rattle.bytecode.proofs.Limits.{over-code, over-pool, both-within, Limits, by-limits}
 use Rattle.exactly.specs.Standing.{Standing, linesIn, totalEntries, LinesTile, jumpsDrawn, allJumpsDrawn}
-use Rattle.exactly.specs.Answers.{StoredTo, Accepts, Demand2, Demand2Exactly, Why, RefusedExactly, refusals, RefusalNumbers}
-use Rattle.exactly.proofs.Standing.{onto, list-onto, run-onto, fit-onto, decoded-line, standing-line, lines-are, linesPast, after-line, all-jumps-drawn, count-lines}
+use Rattle.exactly.specs.Answers.{StoredTo, Demand2, Demand2Exactly, Why, RefusedExactly, refusals, RefusalNumbers}
+use Rattle.exactly.proofs.Standing.{onto, list-onto, run-onto, fit-onto, standing-line, lines-are, linesPast, after-line, all-jumps-drawn, count-lines}
 
 abbrev start : CodeOffset
 start = record { 0 = 0 }

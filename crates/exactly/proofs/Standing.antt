@@ -17,7 +17,6 @@ use Rattle.instruction.proofs.Drawn.{read-drawn}
 use Rattle.lines.specs.Lines.{Line, Lines, linesFrom, linesOf, listOf, Consecutive}
 use Rattle.lines.proofs.Exactly.{lines-exactly, reads-consecutive}
 use Rattle.jumps.specs.Jumps.{Jumps}
-use Rattle.bytecode.specs.declared.Run.{Run}
 use Rattle.bytecode.specs.Decoding.{fitting, runFrom, jumpWords, lineJumps}
 use Rattle.bytecode.proofs.Laws.{fit-line}
 use Rattle.exactly.specs.Standing.{Standing, linesIn, totalEntries, LinesTile, jumpsWith, jumpsDrawn, allJumpsDrawn}

@@ -1,9 +1,6 @@
 -- The entries of an instruction: how many there are, and that they lie in the code.
-use Prim.Native.Nat.{ℕ, zero, suc}
-use mathlib.Core.List.{List}
-use mathlib.Core.Path.{_≡_, refl, ap}
+use mathlib.Core.Path.{refl}
 use native.Mathlib.Omega.{arith}
-use lib.ListN.{length}
 use Rattle.ordinary.specs.declared.Instruction.the-variants as instruction
 use Rattle.instruction.proofs.Exactly.{step-within}
 use Rattle.switches.proofs.Exactly.{length-table, length-pairs}

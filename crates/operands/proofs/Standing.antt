@@ -9,6 +9,12 @@ use Rattle.read.specs.declared.CodeOffset.{CodeOffset}
 use Rattle.read.specs.Reads.{bytesAt, after}
 use Rattle.operands.specs.Pictures.{Stand}
 
+-- the bytes that are there stand
+pub stand-here : (code : List ℕ) (n : ℕ) (at : CodeOffset) → at .0 + n ≤ length code → (length (bytesAt n code (at .0)) ≡ n) × Stand code at (bytesAt n code (at .0))
+stand-here code n at h =
+    let all : length (bytesAt n code (at .0)) ≡ n = length-take-le n (drop (at .0) code) (rw length-drop (omega arith)) in
+    (all, record { within = rw all h; there = ap (λ (k : ℕ). bytesAt k code (at .0)) all })
+
 module _ (code : List ℕ) (at : CodeOffset) (first rest : List ℕ) where
   joined-bytes : bytesAt (length first + length rest) code (at .0) ≡ bytesAt (length first) code (at .0) ++ bytesAt (length rest) code (at .0 + length first)
   joined-bytes = take-add (length first) (length rest) (drop (at .0) code) ∙ ap (λ (l : List ℕ). bytesAt (length first) code (at .0) ++ take (length rest) l) (drop-drop (length first) (at .0) code)

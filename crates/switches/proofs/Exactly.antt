@@ -7,8 +7,7 @@ use native.Mathlib.Omega.{arith}
 use borrow.Author.Tests.{leb-true, leb-false}
 use lib.Dec.{leb}
 use lib.IntN.{ℤ, pos, negsuc, _+ℤ_, _-ℤ_, +ℤ-assoc, +ℤ-idr, pos-+ℤ-pos}
-use lib.ListN.{length, drop, length-append, length-drop}
-use lib.Seq.{length-take-le}
+use lib.ListN.{length, length-append}
 use Rattle.read.specs.declared.CodeOffset.{CodeOffset}
 use Rattle.read.specs.declared.Read.{Read}
 use Rattle.read.specs.declared.Read.the-variants as read
@@ -16,7 +15,7 @@ use Rattle.read.specs.Reads.{bigEndian, bytesAt, after, readOf}
 use Rattle.operands.specs.Signed.{signedOf, wordOf}
 use Rattle.operands.specs.Pictures.{Stand}
 use Rattle.operands.proofs.Exactly.{finds, found}
-use Rattle.operands.proofs.Standing.{stand-join, stand-part}
+use Rattle.operands.proofs.Standing.{stand-here, stand-join, stand-part}
 use Rattle.records.specs.declared.SwitchEntry.{SwitchEntry}
 use Rattle.ordinary.specs.declared.Instruction.{Instruction}
 use Rattle.ordinary.specs.declared.Instruction.the-variants as instruction
@@ -77,11 +76,6 @@ length-pairs code at zero = refl
 length-pairs code at (suc n) = ap suc (length-pairs code _ n)
 
 module _ (code : List ℕ) where
-  stand-here : (n : ℕ) (at : CodeOffset) → at .0 + n ≤ length code → (length (bytesAt n code (at .0)) ≡ n) × Stand code at (bytesAt n code (at .0))
-  stand-here n at h =
-      let all : length (bytesAt n code (at .0)) ≡ n = length-take-le n (drop (at .0) code) (rw length-drop (omega arith)) in
-      (all, record { within = rw all h; there = ap (λ (k : ℕ). bytesAt k code (at .0)) all })
-
   part : {n : ℕ} (at : CodeOffset) (first rest : List ℕ) → length first ≡ n → Stand code at (first ++ rest) → Stand code at first × Stand code (after n at) rest
   part at first rest e s =
       let parts = stand-part code at first rest s in
@@ -101,7 +95,7 @@ module _ (code : List ℕ) where
   word-there : (at : CodeOffset) (v : ℕ) (next : CodeOffset) → readOf 4 code at ≡ read.Value v next → Word at v next
   word-there at v next e =
       let f = finds 4 code at v next e in
-      let s = stand-here 4 at (f .within) in
+      let s = stand-here code 4 at (f .within) in
       record { bytes = bytesAt 4 code (at .0); four = s .0; number = f .number; stand = s .1; place = f .place }
 
   word-read : (at : CodeOffset) (bytes : List ℕ) → length bytes ≡ 4 → Stand code at bytes → readOf 4 code at ≡ read.Value (bigEndian bytes) (after 4 at)
@@ -131,7 +125,7 @@ module _ (code : List ℕ) where
 
   word-drawn : (at : CodeOffset) → at .0 + 4 ≤ length code → WordDrawn (wordAt code at) (bytesAt 4 code (at .0)) × ((rest : List ℕ) → Stand code (after 4 at) rest → Stand code at (bytesAt 4 code (at .0) ++ rest))
   word-drawn at h =
-      let s = stand-here 4 at h in (
+      let s = stand-here code 4 at h in (
         record { four = s .0; is = refl },
         λ rest r. stand-join code at (bytesAt 4 code (at .0)) rest (s .1) (subst (λ (k : ℕ). Stand code (after k at) rest) (sym (s .0)) r),
       )
@@ -224,7 +218,7 @@ module _ (code : List ℕ) where
   padding-there : (at : CodeOffset) → padded at .0 ≤ length code → Padded at
   padding-there at h =
       let n : ℕ = padded at .0 - at .0 in
-      let s = stand-here n at (omega arith) in
+      let s = stand-here code n at (omega arith) in
       let all : length (bytesAt n code (at .0)) ≡ n = s .0 in
       let pads : Padding at (bytesAt n code (at .0)) = record { few = rw all (omega arith); aligned = rw all (omega arith) } in
       record { bytes = bytesAt n code (at .0); pads = pads; stand = s .1; place = pads-to at (bytesAt n code (at .0)) pads }

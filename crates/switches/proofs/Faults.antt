@@ -8,16 +8,15 @@ use native.Mathlib.Omega.{arith}
 use borrow.Author.Tests.{leb-true, leb-false}
 use lib.Dec.{leb}
 use lib.IntN.{ℤ, pos, negsuc, _+ℤ_, _-ℤ_}
-use lib.ListN.{length, drop, length-drop}
-use lib.Seq.{length-take-le}
+use lib.ListN.{length}
 use Rattle.read.specs.declared.CodeOffset.{CodeOffset}
 use Rattle.read.specs.declared.Read.{Read}
 use Rattle.read.specs.declared.Read.the-variants as read
 use Rattle.read.specs.Reads.{bigEndian, bytesAt, after, readOf}
 use Rattle.operands.specs.Signed.{signedOf}
-use Rattle.operands.specs.Pictures.{Stand}
 use Rattle.operands.proofs.Exactly.{clash as read-clash, finds, found}
 use Rattle.operands.proofs.Faults.{read-refused}
+use Rattle.operands.proofs.Standing.{stand-here}
 use Rattle.ordinary.specs.declared.Instruction.{Instruction}
 use Rattle.ordinary.specs.declared.Instruction.the-variants as instruction
 use Rattle.ordinary.specs.declared.Step.{Step}
@@ -65,11 +64,6 @@ padded-is {at} {start} f =
     at-place (omega arith)
 
 module _ (code : List ℕ) (n : ℕ) (place : CodeOffset) where
-  stand-here : (k : ℕ) (at : CodeOffset) → at .0 + k ≤ length code → (length (bytesAt k code (at .0)) ≡ k) × Stand code at (bytesAt k code (at .0))
-  stand-here k at h =
-      let all : length (bytesAt k code (at .0)) ≡ k = length-take-le k (drop (at .0) code) (rw length-drop (omega arith)) in
-      (all, record { within = rw all h; there = ap (λ (m : ℕ). bytesAt m code (at .0)) all })
-
   -- a word and what follows it: the word is short, or it stands and what follows is refused
   data Next (at : CodeOffset) (follows : ℕ → CodeOffset → Step) : Type 0 where
     short : WordShort code at n place → Next at follows
@@ -82,7 +76,7 @@ module _ (code : List ℕ) (n : ℕ) (place : CodeOffset) where
       go (Then.here r) = let f = read-refused 4 code at n place .0 r in Next.short (record { number = f .0; placed = f .1; past = f .2 })
       go (Then.further-on v mid r d) =
           let f = finds 4 code at v mid r in
-          let s = stand-here 4 at (f .within) in
+          let s = stand-here code 4 at (f .within) in
           Next.more (bytesAt 4 code (at .0)) (record { four = s .0; stand = s .1 }) (sym (ap₂ follows (f .number) (f .place)) ∙ d)
 
   short-from : (at : CodeOffset) (follows : ℕ → CodeOffset → Step) → WordShort code at n place → thenRead (readOf 4 code at) follows ≡ step.Refused n place
@@ -110,7 +104,7 @@ module _ (code : List ℕ) (n : ℕ) (place : CodeOffset) where
       go false q =
           let less : length code - at .0 < 4 * count = leb-false _ _ q in
           let fit : ℕ = (length code - at .0) / 4 in
-          let s = stand-here (4 * fit) at (omega arith) in
+          let s = stand-here code (4 * fit) at (omega arith) in
           let same : read.Refused n place ≡ read.Refused 3 (after ((length code - at .0) / 4 * 4) at) = sym e ∙ words-short code count at less in
           let placed : place ≡ after ((length code - at .0) / 4 * 4) at = cc in
           record {
