@@ -199,9 +199,9 @@ module _ (code pool : List ℕ) (record-room entry-room : ℕ) where
         by-ending (run.Refused n p) (Ending.fault inside e) q =
             inl (record { number = n; place = p; second = 0; why = Why.bad-instruction (c .lines) (c .end) stored inside (step-refused-exactly code pool (c .end) n p .0 e) refl; is = q })
         by-ending (run.Refused n p) (Ending.no-entry s at few is there) q =
-            inl (record { number = n; place = p; second = 0; why = Why.no-entry-left (c .lines) s (subst (StoredTo code pool record-room entry-room (c .lines)) (sym at) stored) (omega (arith, c .entries-fit)) is (there ∙ sym at) refl; is = q })
+            inl (record { number = n; place = p; second = 0; why = Why.no-entry-left (c .lines) s (subst (StoredTo code pool record-room entry-room (c .lines)) (sym at) stored) (omega (arith, c .entries-fit)) (is, there ∙ sym at, refl); is = q })
         by-ending (run.Refused n p) (Ending.no-record s at room none is there) q =
-            inl (record { number = n; place = p; second = 0; why = Why.no-record-left (c .lines) s (subst (StoredTo code pool record-room entry-room (c .lines)) (sym at) stored) (omega (arith, c .entries-fit)) (omega (arith, c .records-fit)) is (there ∙ sym at) refl; is = q })
+            inl (record { number = n; place = p; second = 0; why = Why.no-record-left (c .lines) s (subst (StoredTo code pool record-room entry-room (c .lines)) (sym at) stored) (omega (arith, c .entries-fit)) (omega (arith, c .records-fit)) (is, there ∙ sym at, refl); is = q })
 
     by-course : Refusal ⊎ Stored-all
     unfolding decoding
@@ -233,8 +233,8 @@ module _ (code pool : List ℕ) (record-room entry-room : ℕ) where
   truth = by-limit (by-limits code pool (answerOf code (fitted code pool record-room entry-room)) refl)
     where
       by-limit : Limits code pool (answerOf code (fitted code pool record-room entry-room)) answer → Says answer
-      by-limit (Limits.long-code h e) = subst Says (sym e) (Why.long-code h refl refl refl)
-      by-limit (Limits.long-pool h k e) = subst Says (sym e) (Why.long-pool h k refl refl refl)
+      by-limit (Limits.long-code h e) = subst Says (sym e) (Why.long-code h (refl, refl, refl))
+      by-limit (Limits.long-pool h k e) = subst Says (sym e) (Why.long-pool h k (refl, refl, refl))
       by-limit (Limits.within h k e) =
           ⊎-elim (λ r. subst Says (sym (r .is)) (r .why)) (λ a. subst Says (sym (a .is)) (judged-says a (check (allJumpsDrawn (a .lines))) refl)) (by-course h k)
 
@@ -248,20 +248,20 @@ module _ (code pool : List ℕ) (record-room entry-room : ℕ) where
 
   why-is : (n : ℕ) (place : CodeOffset) (second : ℕ) → Why code pool record-room entry-room n place second → answer ≡ decoded.Refused n place second
   unfolding decoding fitting
-  why-is n place second (Why.long-code h is there none) = rw (is, there, none) (over-code code pool _ h)
-  why-is n place second (Why.long-pool h k is there none) = rw (is, there, none) (over-pool code pool _ h k)
+  why-is n place second (Why.long-code h t) = rw (t .0, t .1, t .2) (over-code code pool _ h)
+  why-is n place second (Why.long-pool h k t) = rw (t .0, t .1, t .2) (over-pool code pool _ h k)
   why-is n place second (Why.bad-instruction ls at stored inside wrong none) =
       rw none (stopped code pool record-room entry-room ls at stored (Lines.stop n place) (inside, step-refused-exactly code pool at n place .1 wrong) n place refl)
-  why-is n place second (Why.no-entry-left ls s stored few is there none) =
+  why-is n place second (Why.no-entry-left ls s stored few t) =
       let rest : Lines = linesPast code pool s in
       let fewer : entry-room - totalEntries (linesIn ls) < entriesOf (s .line .instruction) = omega (arith, stored .entries-fit) in
-      rw (is, there, none)
+      rw (t .0, t .1, t .2)
       (stopped code pool record-room entry-room ls (s .line .at) stored (Lines.line (s .line) rest) (after-line code pool s) 14 (s .line .at) (fit-14 (s .line) rest _ (record-room - length ls) fewer))
-  why-is n place second (Why.no-record-left ls s stored room full is there none) =
+  why-is n place second (Why.no-record-left ls s stored room full t) =
       let rest : Lines = linesPast code pool s in
       let empty : record-room - length ls ≡ 0 = omega arith in
       let some : entriesOf (s .line .instruction) ≤ entry-room - totalEntries (linesIn ls) = omega arith in
-      rw (is, there, none)
+      rw (t .0, t .1, t .2)
       (stopped code pool record-room entry-room ls (s .line .at) stored (Lines.line (s .line) rest) (after-line code pool s) 15 (s .line .at)
       (ap (λ (x : ℕ). fitting x (entry-room - totalEntries (linesIn ls)) (Lines.line (s .line) rest)) empty ∙ fit-15 (s .line) rest _ some))
   why-is n place second (Why.bad-jump ls stored fails) =
@@ -282,11 +282,11 @@ step-refusal : {n : ℕ} → In n stepRefusals → In n refusals
 step-refusal m = List·Memᴰ·tail (List·Memᴰ·tail (Memᴰ·append-left (12 ∷ 13 ∷ 14 ∷ 15 ∷ []) m))
 
 why-number : (code pool : List ℕ) (record-room entry-room n : ℕ) (place : CodeOffset) (second : ℕ) → Why code pool record-room entry-room n place second → In n refusals × (In n (12 ∷ 13 ∷ []) ⊎ (second ≡ 0))
-why-number code pool record-room entry-room n place second (Why.long-code h is there none) = (numbered refusals 1 refl is, inr none)
-why-number code pool record-room entry-room n place second (Why.long-pool h k is there none) = (numbered refusals 2 refl is, inr none)
+why-number code pool record-room entry-room n place second (Why.long-code h t) = (numbered refusals 1 refl (t .0), inr (t .2))
+why-number code pool record-room entry-room n place second (Why.long-pool h k t) = (numbered refusals 2 refl (t .0), inr (t .2))
 why-number code pool record-room entry-room n place second (Why.bad-instruction ls at stored inside wrong none) = (step-refusal (step-refuses code pool at n place (step-refused-exactly code pool at n place .1 wrong)), inr none)
-why-number code pool record-room entry-room n place second (Why.no-entry-left ls s stored few is there none) = (numbered refusals 14 refl is, inr none)
-why-number code pool record-room entry-room n place second (Why.no-record-left ls s stored room full is there none) = (numbered refusals 15 refl is, inr none)
+why-number code pool record-room entry-room n place second (Why.no-entry-left ls s stored few t) = (numbered refusals 14 refl (t .0), inr (t .2))
+why-number code pool record-room entry-room n place second (Why.no-record-left ls s stored room full t) = (numbered refusals 15 refl (t .0), inr (t .2))
 why-number code pool record-room entry-room n place second (Why.bad-jump ls stored fails) = of-jump (fails .fails)
   where
     of-jump : Fails (startsOf (allJumpsDrawn ls)) (targetOf (fails .at .at) (fails .word)) n → In n refusals × (In n (12 ∷ 13 ∷ []) ⊎ (second ≡ 0))

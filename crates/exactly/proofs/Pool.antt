@@ -9,10 +9,10 @@ use Rattle.records.specs.Records.{recordRoom, entryRoom}
 use Rattle.bytecode.specs.declared.Decoded.{Decoded}
 use Rattle.bytecode.specs.Decoding.{fitting, recordsFrom, entriesFrom, answerOf, limited, decoding, storeAfter}
 use Rattle.bytecode.proofs.Limits.{over-code, both-within, Limits, by-limits}
-use Rattle.exactly.specs.Pool.{Agree, DecodingPool, StoresPool}
+use Rattle.exactly.specs.Pool.{PoolsAgree, DecodingPool, StoresPool}
 
 -- of two tables within the limit neither is refused
-module _ (code pool other : List ℕ) (a : Agree code pool other) (answer : Decoded) where
+module _ (code pool other : List ℕ) (a : PoolsAgree code pool other) (answer : Decoded) where
   same-limits : Limits code pool answer (limited code pool answer) → limited code pool answer ≡ limited code other answer
   same-limits (Limits.within c p e) = e ∙ sym (both-within code other answer c (a .short-other))
   same-limits (Limits.long-pool c p e) = absurd (omega (arith, a .short-pool))

@@ -31,11 +31,11 @@ module _ (code pool : List ℕ) (record-room entry-room record-room′ entry-roo
       record { lines = d .lines; accepted = record { stored = stored-more (a .stored); instructions = a .instructions; switch-entries = a .switch-entries; land = a .land }; only = d .only }
 
   why-more : {n : ℕ} {place : CodeOffset} {second : ℕ} → (n ≡ 14 → ⊥) → (n ≡ 15 → ⊥) → Why code pool record-room entry-room n place second → Why code pool record-room′ entry-room′ n place second
-  why-more a b (Why.long-code h is there none) = Why.long-code h is there none
-  why-more a b (Why.long-pool h k is there none) = Why.long-pool h k is there none
+  why-more a b (Why.long-code h t) = Why.long-code h t
+  why-more a b (Why.long-pool h k t) = Why.long-pool h k t
   why-more a b (Why.bad-instruction ls at s inside fault none) = Why.bad-instruction ls at (stored-more s) inside fault none
-  why-more a b (Why.no-entry-left ls l s few is there none) = absurd (a is)
-  why-more a b (Why.no-record-left ls l s room full is there none) = absurd (b is)
+  why-more a b (Why.no-entry-left ls l s few t) = absurd (a (t .0))
+  why-more a b (Why.no-record-left ls l s room full t) = absurd (b (t .0))
   why-more a b (Why.bad-jump ls s fails) = Why.bad-jump ls (stored-more s) fails
 
   same-answer : (answer : Decoded) → decoding code pool record-room entry-room ≡ answer → NotForRoom answer → decoding code pool record-room′ entry-room′ ≡ answer

@@ -44,19 +44,37 @@ Demand2Exactly =
     (code pool : List ℕ) (record-room entry-room k m : ℕ)
     → (decoding code pool record-room entry-room ≡ decoded.Accepted k m) ↔ Demand2 code pool record-room entry-room k m
 
+-- This number, at this place, with 0 for the second number
+abbrev pub Tells : ℕ → CodeOffset → ℕ → CodeOffset → ℕ → Type 0
+Tells number at n place second = (n ≡ number) × (place ≡ at) × (second ≡ 0)
+
 -- Why a code is refused with a number, a place and a second number
 pub data Why (code pool : List ℕ) (record-room entry-room : ℕ) (n : ℕ) (place : CodeOffset) (second : ℕ) : Type 0 where
   -- 1, 2: the code or the pool table is over its limit
-  long-code : codeLimit < length code → n ≡ 1 → place ≡ offset 0 → second ≡ 0 → Why code pool record-room entry-room n place second
-  long-pool : length code ≤ codeLimit → poolLimit < length pool → n ≡ 2 → place ≡ offset 0 → second ≡ 0 → Why code pool record-room entry-room n place second
+  long-code : codeLimit < length code → Tells 1 (offset 0) n place second → Why code pool record-room entry-room n place second
+  long-pool :
+      length code ≤ codeLimit → poolLimit < length pool → Tells 2 (offset 0) n place second
+      → Why code pool record-room entry-room n place second
   -- 3 to 11: after lines that are stored, the code goes on, and the instruction there has a fault of its own
-  bad-instruction : (ls : List (Standing code pool)) (at : CodeOffset) → StoredTo code pool record-room entry-room ls at → at .0 < length code → StepFault code pool at n place → second ≡ 0 → Why code pool record-room entry-room n place second
+  bad-instruction :
+      (ls : List (Standing code pool)) (at : CodeOffset) → StoredTo code pool record-room entry-room ls at
+      → at .0 < length code → StepFault code pool at n place → second ≡ 0
+      → Why code pool record-room entry-room n place second
   -- 14: the next line has more entries than there is room left
-  no-entry-left : (ls : List (Standing code pool)) (s : Standing code pool) → StoredTo code pool record-room entry-room ls (s .line .at) → entry-room < totalEntries (linesIn ls) + entriesOf (s .line .instruction) → n ≡ 14 → place ≡ s .line .at → second ≡ 0 → Why code pool record-room entry-room n place second
+  no-entry-left :
+      (ls : List (Standing code pool)) (s : Standing code pool) → StoredTo code pool record-room entry-room ls (s .line .at)
+      → entry-room < totalEntries (linesIn ls) + entriesOf (s .line .instruction) → Tells 14 (s .line .at) n place second
+      → Why code pool record-room entry-room n place second
   -- 15: its entries have room, and no record is left
-  no-record-left : (ls : List (Standing code pool)) (s : Standing code pool) → StoredTo code pool record-room entry-room ls (s .line .at) → totalEntries (linesIn ls) + entriesOf (s .line .instruction) ≤ entry-room → length ls ≡ record-room → n ≡ 15 → place ≡ s .line .at → second ≡ 0 → Why code pool record-room entry-room n place second
+  no-record-left :
+      (ls : List (Standing code pool)) (s : Standing code pool) → StoredTo code pool record-room entry-room ls (s .line .at)
+      → totalEntries (linesIn ls) + entriesOf (s .line .instruction) ≤ entry-room → length ls ≡ record-room → Tells 15 (s .line .at) n place second
+      → Why code pool record-room entry-room n place second
   -- 12, 13: all lines are stored, and this is the first jump that fails
-  bad-jump : (ls : List (Standing code pool)) → StoredTo code pool record-room entry-room ls (offset (length code)) → FirstFailing (allJumpsDrawn ls) n place second → Why code pool record-room entry-room n place second
+  bad-jump :
+      (ls : List (Standing code pool)) → StoredTo code pool record-room entry-room ls (offset (length code))
+      → FirstFailing (allJumpsDrawn ls) n place second
+      → Why code pool record-room entry-room n place second
 
 -- proved as `refused-exactly`
 abbrev pub RefusedExactly : Type 0

@@ -25,23 +25,23 @@ use Rattle.jumps.specs.Jumps.{Jumps, placed, targetOf, andThen, jumpChec
 use Rattle.jumps.specs.Stored.{hasJump, storedEntries, entryJump, storedWords, storedJumps, jumpsIn}
 
 -- where a jump leads, as a sum of plain numbers
-module _ (at : CodeOffset) {jump wide : ℕ} (is : wide ≡ jump) where
+module _ (at : CodeOffset) {jump cast : ℕ} (is : cast ≡ jump) where
   module _ (high : 2 ^ 31 ≤ jump) (word : jump < 2 ^ 32) where
     backward : targetOf at jump ≡ pos (at .0) +ℤ negsuc (2 ^ 32 - suc jump)
     backward = ap (λ (z : ℤ). pos (at .0) +ℤ z) (signed-high 4 jump high word)
 
-    pub below : at .0 + wide < 2 ^ 32 → target.Below ≡ placed (targetOf at jump)
+    pub below : at .0 + cast < 2 ^ 32 → target.Below ≡ placed (targetOf at jump)
     below less =
         let l : at .0 < suc (2 ^ 32 - suc jump) = omega arith in
         rw (backward, lt-ltb _ _ l)
 
-    pub back : 2 ^ 32 ≤ at .0 + wide → target.At (record { 0 = at .0 + wide - 2 ^ 32 }) ≡ placed (targetOf at jump)
+    pub back : 2 ^ 32 ≤ at .0 + cast → target.At (record { 0 = at .0 + cast - 2 ^ 32 }) ≡ placed (targetOf at jump)
     back more =
         let l : suc (2 ^ 32 - suc jump) ≤ at .0 = omega arith in
-        let e : at .0 + wide - 2 ^ 32 ≡ at .0 - suc (2 ^ 32 - suc jump) = omega arith in
+        let e : at .0 + cast - 2 ^ 32 ≡ at .0 - suc (2 ^ 32 - suc jump) = omega arith in
         rw (backward, le-ltb _ _ l, e)
 
-  pub forward : jump < 2 ^ 31 → target.At (record { 0 = at .0 + wide }) ≡ placed (targetOf at jump)
+  pub forward : jump < 2 ^ 31 → target.At (record { 0 = at .0 + cast }) ≡ placed (targetOf at jump)
   forward low = rw (is, signed-low 4 jump low)
 
 -- a jump by where it leads
@@ -116,8 +116,8 @@ module _ {A : Type 0} {one : ℕ → A → Checked} {run : ℕ → List A → Ch
     loop-ends h = sym (g .none (i + k)) ∙ ap (run (i + k)) (sym (listed-done f i n h)) ∙ inv
 
 -- the jump of an entry that was read
-pub entry-read : (starts : List ℕ) (at : CodeOffset) (entries : List ℕ) (first : RecordIndex) (i : ℕ) {wide : ℕ} {entry : SwitchEntry} {r : Checked}
-    → wide ≡ i → entry ≡ entryAt entries (index (first .0 + wide)) → r ≡ jumpCheck starts at (i + 1) (targetOf at (entry .jump))
+pub entry-read : (starts : List ℕ) (at : CodeOffset) (entries : List ℕ) (first : RecordIndex) (i : ℕ) {j : ℕ} {entry : SwitchEntry} {r : Checked}
+    → j ≡ i → entry ≡ entryAt entries (index (first .0 + j)) → r ≡ jumpCheck starts at (i + 1) (targetOf at (entry .jump))
     → r ≡ jumpCheck starts at (i + 1) (targetOf at (entryJump entries first i))
 entry-read starts at entries first i w e h = h ∙ rw (e, w)
 
@@ -127,10 +127,10 @@ module _ (starts entries : List ℕ) (stored : Record) where
   unfolding storedWords wordsCheck
   no-jump e = rw (e, storedWords)
 
-  module _ (has : hasJump (stored .kind) ≡ true) {offset : ℕ} (wide : offset ≡ stored .offset) {own : Checked} (is : own ≡ jumpCheck starts (record { 0 = offset }) 0 (targetOf (record { 0 = offset }) (stored .a))) where
+  module _ (has : hasJump (stored .kind) ≡ true) {offset : ℕ} (there : offset ≡ stored .offset) {own : Checked} (is : own ≡ jumpCheck starts (record { 0 = offset }) 0 (targetOf (record { 0 = offset }) (stored .a))) where
     both : jumpsCheck starts (storedJumps entries stored) ≡ andThen own (wordsCheck starts (record { 0 = offset }) 1 (listed (entryJump entries (index (stored .d))) 0 (storedEntries stored)))
     unfolding storedWords wordsCheck
-    both = rw (has, storedWords, is, wide)
+    both = rw (has, storedWords, is, there)
 
     pub own-fails : {number second : ℕ} {place : CodeOffset} → own ≡ checked.Bad number place second → own ≡ jumpsCheck starts (storedJumps entries stored)
     own-fails e = sym (both ∙ rw e)

@@ -21,8 +21,8 @@ use Rattle.pool.specs.Entries.{entryOfKind, HasKind}
 use Rattle.pool.proofs.Exactly.{entry-found-exactly, two-refusals}
 use Rattle.opcodes.specs.Operands.{Meaning, Operand}
 use Rattle.operands.specs.Checks.{signedRead, unlessFault, faultIn, indexFault, zeroFault, isArrayTag, arrayTagFault, meant, operandAt}
-use Rattle.operands.specs.Pictures.{valueOf, Keeps, Named, Stand}
-use Rattle.operands.specs.Theorems.{Stands, OperandExactly}
+use Rattle.operands.specs.Pictures.{valueOf, Keeps, Named, Stand, Stands}
+use Rattle.operands.specs.Theorems.{OperandExactly}
 
 pub clash : (n v : ℕ) (p next : CodeOffset) → read.Refused n p ≡ read.Value v next → ⊥
 clash n v p next e = let z : _≡_ {A = ℕ} 0 1 = cc in omega arith

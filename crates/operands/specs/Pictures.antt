@@ -5,7 +5,7 @@ use mathlib.Core.List.{List, []}
 use mathlib.Core.Path.{_≡_}
 use lib.ListN.{length}
 use Rattle.read.specs.declared.CodeOffset.{CodeOffset}
-use Rattle.read.specs.Reads.{bigEndian, bytesAt}
+use Rattle.read.specs.Reads.{bigEndian, bytesAt, after}
 use Rattle.pool.specs.Entries.{HasKind}
 use Rattle.opcodes.specs.Operands.{Meaning, Operand}
 use Rattle.operands.specs.Signed.{extended}
@@ -44,3 +44,11 @@ Named pool (Operand.bytes n Meaning.arrayTag) v = Unit {0}
 pub record Stand (code : List ℕ) (at : CodeOffset) (bytes : List ℕ) : Type 0 where
   pub within : at .0 + length bytes ≤ length code
   pub there : bytesAt (length bytes) code (at .0) ≡ bytes
+
+-- an operand that stands at an offset with its value: its bytes are there, and the pool entry that it names has its kind
+pub record Stands (code pool : List ℕ) (o : Operand) (at : CodeOffset) (v : ℕ) (next : CodeOffset) : Type 0 where
+  pub bytes : List ℕ
+  pub drawn : Drawn o v bytes
+  pub named : Named pool o v
+  pub stand : Stand code at bytes
+  pub place : next ≡ after (length bytes) at

@@ -6,20 +6,12 @@ use mathlib.Core.Path.{_≡_}
 use lib.ListN.{length}
 use Rattle.read.specs.declared.CodeOffset.{CodeOffset}
 use Rattle.read.specs.declared.Read.the-variants as read
-use Rattle.read.specs.Reads.{after}
 use Rattle.opcodes.specs.Operands.{Operand}
 use Rattle.operands.specs.Signed.{signedIn, signedOf, extended}
 use Rattle.operands.specs.Checks.{operandAt}
-use Rattle.operands.specs.Pictures.{Drawn, Named, Stand}
+use Rattle.operands.specs.Pictures.{Stands}
 
 -- An operand is read exactly where its bytes stand and its pool entry has its kind: proved as `operand-exactly`
-pub record Stands (code pool : List ℕ) (o : Operand) (at : CodeOffset) (v : ℕ) (next : CodeOffset) : Type 0 where
-  pub bytes : List ℕ
-  pub drawn : Drawn o v bytes
-  pub named : Named pool o v
-  pub stand : Stand code at bytes
-  pub place : next ≡ after (length bytes) at
-
 abbrev pub OperandExactly : Type 0
 OperandExactly =
     (code pool : List ℕ) (o : Operand) (at : CodeOffset) (v : ℕ) (next : CodeOffset) → at .0 ≤ length code

@@ -13,8 +13,7 @@ use Rattle.opcodes.specs.declared.WideForm.the-variants as wide
 use Rattle.opcodes.specs.Operands.{Meaning, Operand, WideLayout, incrementOf, wideLayoutOf}
 use Rattle.opcodes.specs.Wide.{wideFormOf}
 use Rattle.operands.specs.Checks.{operandAt}
-use Rattle.operands.specs.Pictures.{Stand}
-use Rattle.operands.specs.Theorems.{Stands}
+use Rattle.operands.specs.Pictures.{Stand, Stands}
 use Rattle.operands.proofs.Exactly.{operand-exactly, nowhere, byte-there, byte-read}
 use Rattle.operands.proofs.Standing.{stand-join, stand-part}
 use Rattle.ordinary.specs.declared.Instruction.{Instruction}

@@ -13,8 +13,7 @@ use Rattle.opcodes.specs.declared.WideForm.the-variants as form
 use Rattle.opcodes.specs.Operands.{Operand, WideLayout, wideLayoutOf}
 use Rattle.opcodes.specs.Wide.{wideFormOf}
 use Rattle.operands.specs.Checks.{operandAt}
-use Rattle.operands.specs.Pictures.{Stand}
-use Rattle.operands.specs.Theorems.{Stands}
+use Rattle.operands.specs.Pictures.{Stand, Stands}
 use Rattle.operands.specs.Faults.{OperandFault}
 use Rattle.operands.proofs.Exactly.{operand-exactly, nowhere, byte-there, byte-read}
 use Rattle.operands.proofs.Standing.{stand-join, stand-part}

@@ -41,7 +41,10 @@ OperandsRefusedExactly =
 pub data WideFault (code pool : List ℕ) (at : CodeOffset) (n : ℕ) (place : CodeOffset) : Type 0 where
   past-end : n ≡ 3 → place ≡ at → length code ≤ at .0 → WideFault code pool at n place
   not-modified : n ≡ 5 → place ≡ at → (byte : ℕ) → Stand code at (byte ∷ []) → wideFormOf byte ≡ form.NoInstruction → WideFault code pool at n place
-  of-operands : (byte : ℕ) → Stand code at (byte ∷ []) → (os : List Operand) → wideLayoutOf (wideFormOf byte) ≡ WideLayout.operands os → OperandsFault code pool os (after 1 at) n place → WideFault code pool at n place
+  of-operands :
+      (byte : ℕ) → Stand code at (byte ∷ []) → (os : List Operand)
+      → wideLayoutOf (wideFormOf byte) ≡ WideLayout.operands os → OperandsFault code pool os (after 1 at) n place
+      → WideFault code pool at n place
 
 -- What stands after wide is refused exactly for its fault: proved as `wide-refused-exactly`
 abbrev pub WideRefusedExactly : Type 0

@@ -67,10 +67,19 @@ pub data BadBounds (low high : List ℕ) : Type 0 where
 -- tableswitch: one of its first three words is short; bad bounds, 10 at the high word; or an entry is short
 pub data TableFault (code : List ℕ) (at : CodeOffset) (n : ℕ) (place : CodeOffset) : Type 0 where
   default-short : (start : CodeOffset) → FirstWord at start → WordShort code start n place → TableFault code at n place
-  low-short : (start : CodeOffset) → FirstWord at start → (default : List ℕ) → WordStands code start default → WordShort code (after 4 start) n place → TableFault code at n place
-  high-short : (start : CodeOffset) → FirstWord at start → (default low : List ℕ) → WordStands code start default → WordStands code (after 4 start) low → WordShort code (after 8 start) n place → TableFault code at n place
+  low-short :
+      (start : CodeOffset) → FirstWord at start → (default : List ℕ) → WordStands code start default
+      → WordShort code (after 4 start) n place
+      → TableFault code at n place
+  high-short :
+      (start : CodeOffset) → FirstWord at start → (default low : List ℕ) → WordStands code start default
+      → WordStands code (after 4 start) low → WordShort code (after 8 start) n place
+      → TableFault code at n place
   bad-bounds : (o : TableOpening code at) → n ≡ 10 → place ≡ after 8 (o .start) → BadBounds (o .low) (o .high) → TableFault code at n place
-  entry-short : (o : TableOpening code at) (count : ℕ) → counted (o .low) (o .high) ≡ pos count → count ≤ mostEntries → WordsShort code (after 12 (o .start)) count n place → TableFault code at n place
+  entry-short :
+      (o : TableOpening code at) (count : ℕ) → counted (o .low) (o .high) ≡ pos count → count ≤ mostEntries
+      → WordsShort code (after 12 (o .start)) count n place
+      → TableFault code at n place
 
 -- the words of a lookup before its pairs
 pub record LookupOpening (code : List ℕ) (at : CodeOffset) : Type 0 where
@@ -84,9 +93,15 @@ pub record LookupOpening (code : List ℕ) (at : CodeOffset) : Type 0 where
 -- lookupswitch: one of its first two words is short; npairs is negative, 11 at npairs; or a word of a pair is short
 pub data LookupFault (code : List ℕ) (at : CodeOffset) (n : ℕ) (place : CodeOffset) : Type 0 where
   default-short : (start : CodeOffset) → FirstWord at start → WordShort code start n place → LookupFault code at n place
-  npairs-short : (start : CodeOffset) → FirstWord at start → (default : List ℕ) → WordStands code start default → WordShort code (after 4 start) n place → LookupFault code at n place
+  npairs-short :
+      (start : CodeOffset) → FirstWord at start → (default : List ℕ) → WordStands code start default
+      → WordShort code (after 4 start) n place
+      → LookupFault code at n place
   negative : (o : LookupOpening code at) → n ≡ 11 → place ≡ after 4 (o .start) → BelowZero (signedOf (bigEndian (o .npairs))) → LookupFault code at n place
-  pair-short : (o : LookupOpening code at) (count : ℕ) → signedOf (bigEndian (o .npairs)) ≡ pos count → WordsShort code (after 8 (o .start)) (2 * count) n place → LookupFault code at n place
+  pair-short :
+      (o : LookupOpening code at) (count : ℕ) → signedOf (bigEndian (o .npairs)) ≡ pos count
+      → WordsShort code (after 8 (o .start)) (2 * count) n place
+      → LookupFault code at n place
 
 -- refused exactly for its fault
 abbrev FaultExactly : (List ℕ → CodeOffset → Step) → (List ℕ → CodeOffset → ℕ → CodeOffset → Type 0) → Type 0

@@ -27,12 +27,18 @@ pub record WordDrawn (word : ℕ) (bytes : List ℕ) : Type 0 where
 -- the entries of a table have an offset each. The first has this key, as a signed number, and each the next
 pub data TableEntries : ℤ → List SwitchEntry → List ℕ → Type 0 where
   none : {key : ℤ} → TableEntries key [] []
-  more : {key : ℤ} {e : SwitchEntry} {es : List SwitchEntry} {bytes : List ℕ} (jump rest : List ℕ) → e .key ≡ wordOf key → WordDrawn (e .jump) jump → TableEntries (key +ℤ pos 1) es rest → bytes ≡ jump ++ rest → TableEntries key (e ∷ es) bytes
+  more :
+      {key : ℤ} {e : SwitchEntry} {es : List SwitchEntry} {bytes : List ℕ} (jump rest : List ℕ) → e .key ≡ wordOf key
+      → WordDrawn (e .jump) jump → TableEntries (key +ℤ pos 1) es rest → bytes ≡ jump ++ rest
+      → TableEntries key (e ∷ es) bytes
 
 -- those of a lookup are pairs: a key, and then its offset
 pub data LookupEntries : List SwitchEntry → List ℕ → Type 0 where
   none : LookupEntries [] []
-  more : {e : SwitchEntry} {es : List SwitchEntry} {bytes : List ℕ} (key jump rest : List ℕ) → WordDrawn (e .key) key → WordDrawn (e .jump) jump → LookupEntries es rest → bytes ≡ key ++ (jump ++ rest) → LookupEntries (e ∷ es) bytes
+  more :
+      {e : SwitchEntry} {es : List SwitchEntry} {bytes : List ℕ} (key jump rest : List ℕ) → WordDrawn (e .key) key
+      → WordDrawn (e .jump) jump → LookupEntries es rest → bytes ≡ key ++ (jump ++ rest)
+      → LookupEntries (e ∷ es) bytes
 
 -- tableswitch: padding, default, low, high, and the offsets; high - low + 1 of them, as signed numbers
 pub record TablePicture (at : CodeOffset) (i : Instruction) (bytes : List ℕ) : Type 0 where

@@ -1,14 +1,18 @@
--- The nodes of a code, from its instructions, and the nodes that the words of two stores tell.
+-- The nodes of a code, from its instructions, the nodes that the words of two stores tell, and what decoding leaves in the
+-- stores.
 use Prim.Native.Nat.{ℕ, _+_}
 use mathlib.Core.Bool.{true, false}
 use mathlib.Core.List.{List, map}
+use mathlib.Core.Path.{_≡_}
 use lib.Dec.{ltb}
 use Rattle.laws.specs.Listed.{listed}
 use Rattle.lines.specs.Lines.{Line, linesOf, listOf}
-use Rattle.records.specs.Records.{index, recordAt}
+use Rattle.records.specs.Records.{recordRoom, entryRoom, index, recordAt}
 use Rattle.lookup.specs.Lookup.{offsetOf}
 use Rattle.jumps.specs.Stored.{storedJumps}
-use Rattle.bytecode.specs.Decoding.{lineJumps}
+use Rattle.bytecode.specs.declared.Decoded.{Decoded}
+use Rattle.bytecode.specs.declared.Decoded.the-variants as decoded
+use Rattle.bytecode.specs.Decoding.{lineJumps, decoding, recordsAfter, entriesAfter}
 use Rattle.walk.specs.Walk.{Node}
 
 -- by demand 2's definitions: the instructions of the code, their lengths and their jumps
@@ -27,3 +31,10 @@ nodeIn records count entries end i = record { jumps = storedJumps entries (recor
 
 abbrev pub nodesIn : List ℕ → ℕ → List ℕ → ℕ → List Node
 nodesIn records count entries end = listed (nodeIn records count entries end) 0 count
+
+-- What `decode` promises, where it accepts: read off its contract in Promised.antt
+pub record Decodes (code pool records entries : List ℕ) (answer : Decoded) (records′ entries′ : List ℕ) (k m : ℕ) : Type 0 where
+  pub answers : answer ≡ decoding code pool (recordRoom records) (entryRoom entries)
+  pub stores-records : records′ ≡ recordsAfter code pool records entries
+  pub stores-entries : entries′ ≡ entriesAfter code pool records entries
+  pub accepted : answer ≡ decoded.Accepted k m

@@ -11,8 +11,7 @@ use denote.Triple.Entry.{Args, Res}
 use Rattle.bytecode.proofs as bytecode
 use Rattle.bytecode.specs.declared.Decoded.the-variants as decoded
 use Rattle.walk.specs.Walk.{Tiles, Along, Safe}
-use Rattle.walk.specs.Nodes.{nodesOf, nodesIn}
-use Rattle.walk.specs.Theorems.{Decodes}
+use Rattle.walk.specs.Nodes.{nodesOf, nodesIn, Decodes}
 
 -- A call of `decode`, and what its caller learns from the `ensures`
 pub record Call : Type 0 where

@@ -11,12 +11,11 @@ use Rattle.ordinary.specs.declared.Instruction.the-variants as instruction
 use Rattle.operands.specs.Signed.{signedOf}
 use Rattle.instruction.specs.Pictures.{StandsAt}
 use Rattle.lines.specs.Lines.{Line, linesOf, listOf}
-use Rattle.records.specs.Records.{recordRoom, entryRoom}
 use Rattle.bytecode.specs.declared.Decoded.{Decoded}
 use Rattle.bytecode.specs.declared.Decoded.the-variants as decoded
-use Rattle.bytecode.specs.Decoding.{jumpWords, decoding, recordsAfter, entriesAfter}
+use Rattle.bytecode.specs.Decoding.{jumpWords, decoding}
 use Rattle.walk.specs.Walk.{Node, start, Tiles, On, Along, Safe}
-use Rattle.walk.specs.Nodes.{nodesOf, nodesIn}
+use Rattle.walk.specs.Nodes.{nodesOf, nodesIn, Decodes}
 
 -- For ANY kind of step whose targets start instructions, walks are safe: proved as `any-walk`. Handlers (JVMS 4.7.3) can
 -- be such steps
@@ -54,14 +53,7 @@ abbrev pub AcceptedMeetsDemand3 : Type 0
 AcceptedMeetsDemand3 =
     (code pool : List ℕ) (record-room entry-room k m : ℕ) → decoding code pool record-room entry-room ≡ decoded.Accepted k m → Demand3 code pool
 
--- What `decode` promises, where it accepts: read off its contract in Promised.antt
-pub record Decodes (code pool records entries : List ℕ) (answer : Decoded) (records′ entries′ : List ℕ) (k m : ℕ) : Type 0 where
-  pub answers : answer ≡ decoding code pool (recordRoom records) (entryRoom entries)
-  pub stores-records : records′ ≡ recordsAfter code pool records entries
-  pub stores-entries : entries′ ≡ entriesAfter code pool records entries
-  pub accepted : answer ≡ decoded.Accepted k m
-
--- Then the words of the two stores tell the same nodes: proved as `stores-tell`
+-- Where a code is decoded, the words of the two stores tell the same nodes: proved as `stores-tell`
 abbrev pub StoresTell : Type 0
 StoresTell =
     (code pool records entries : List ℕ) (answer : Decoded) (records′ entries′ : List ℕ) (k m : ℕ)
