@@ -89,7 +89,7 @@ const TABLE_SWITCH: u8 = 22;
 const LOOKUP_SWITCH: u8 = 23;
 
 // Not the next free number, so that a new format does not move it.
-const NO_INSTRUCTION: u8 = 255;
+const NO_INSTRUCTION: u8 = 31;
 
 // The format of each byte, with its mnemonic (JVMS 6.5 and 7).
 const FORMATS: [u8; 256] = [
