@@ -28,7 +28,7 @@ use Rattle.bytecode.specs.declared.Run.the-variants as run
 use Rattle.bytecode.specs.declared.Decoded.{Decoded}
 use Rattle.bytecode.specs.declared.Decoded.the-variants as decoded
 use Rattle.bytecode.specs.Decoding.{codeLimit, poolLimit, fitting, fitted, runFrom, lineJumps, jumpsOf, judged, answerOf, decoding}
-use Rattle.bytecode.proofs.Laws.{fit-line, fit-14, fit-15, not-filled}
+use Rattle.bytecode.proofs.Laws.{fit-line, fit-14, fit-15}
 use Rattle.bytecode.proofs.Limits.{over-code, over-pool, both-within, Limits, by-limits}
 use Rattle.exactly.specs.Standing.{Standing, linesIn, totalEntries, LinesTile, jumpsDrawn, allJumpsDrawn}
 use Rattle.exactly.specs.Answers.{StoredTo, Demand2, Demand2Exactly, Why, RefusedExactly, refusals, RefusalNumbers}
@@ -46,44 +46,39 @@ module _ (code pool : List ℕ) where
     no-entry : {n : ℕ} {p : CodeOffset} (s : Standing code pool) → s .line .at ≡ at → entries < entriesOf (s .line .instruction) → n ≡ 14 → p ≡ at → Ending at records entries (run.Refused n p)
     no-record : {n : ℕ} {p : CodeOffset} (s : Standing code pool) → s .line .at ≡ at → entriesOf (s .line .instruction) ≤ entries → records ≡ 0 → n ≡ 15 → p ≡ at → Ending at records entries (run.Refused n p)
 
-  record Course (at : CodeOffset) (k m records entries : ℕ) (r : Run) : Type 0 where
+  record Course (at : CodeOffset) (records entries : ℕ) (r : Run) : Type 0 where
     lines : List (Standing code pool)
     end : CodeOffset
     tile : LinesTile at lines end
     records-fit : length lines ≤ records
     entries-fit : totalEntries (linesIn lines) ≤ entries
-    counts : (k′ m′ : ℕ) → r ≡ run.Filled k′ m′ → (k′ ≡ k + length lines) × (m′ ≡ m + totalEntries (linesIn lines))
     ending : Ending end (records - length lines) (entries - totalEntries (linesIn lines)) r
 
   with-room : {at : CodeOffset} {records entries records′ entries′ : ℕ} {r : Run} → records ≡ records′ → entries ≡ entries′ → Ending at records entries r → Ending at records′ entries′ r
   with-room {at} {records} {entries} {records′} {entries′} {r} e f ends = subst (λ (x : ℕ). Ending at x entries′ r) e (subst (λ (x : ℕ). Ending at records x r) f ends)
 
   -- no line, and an end at once
-  at-once : (at : CodeOffset) (k m records entries : ℕ) (r : Run) → ((k′ m′ : ℕ) → r ≡ run.Filled k′ m′ → (k′ ≡ k) × (m′ ≡ m)) → Ending at records entries r → Course at k m records entries r
+  at-once : (at : CodeOffset) (records entries : ℕ) (r : Run) → Ending at records entries r → Course at records entries r
   unfolding totalEntries
-  at-once at k m records entries r counts ends =
+  at-once at records entries r ends =
       record {
         lines = [];
         end = at;
         tile = refl;
         records-fit = omega arith;
         entries-fit = omega arith;
-        counts = λ k′ m′ e. let n = counts k′ m′ e in (omega (arith, n .0), omega (arith, n .1));
         ending = with-room (omega arith) (omega arith) ends;
       }
 
-  refused-at-once : (at : CodeOffset) (k m records entries n : ℕ) (p : CodeOffset) → Ending at records entries (run.Refused n p) → Course at k m records entries (run.Refused n p)
-  refused-at-once at k m records entries n p ends = at-once at k m records entries (run.Refused n p) (λ k′ m′ e. absurd (not-filled e)) ends
-
   -- one line more before a course, and a line that has no room
-  module _ (l : Line) (at : CodeOffset) (k m entries : ℕ) (e : l .at ≡ at) (decoded : stepOf code pool at ≡ step.Decoded (l .instruction) (l .next)) where
+  module _ (l : Line) (at : CodeOffset) (entries : ℕ) (e : l .at ≡ at) (decoded : stepOf code pool at ≡ step.Decoded (l .instruction) (l .next)) where
     abbrev own : ℕ
     own = entriesOf (l .instruction)
 
     abbrev this : Standing code pool
     this = standing-line code pool l (ap (stepOf code pool) e ∙ decoded)
 
-    one-more : (left : ℕ) (r : Run) → own ≤ entries → Course (l .next) (k + 1) (m + own) left (entries - own) r → Course at k m (suc left) entries r
+    one-more : (left : ℕ) (r : Run) → own ≤ entries → Course (l .next) left (entries - own) r → Course at (suc left) entries r
     unfolding totalEntries
     one-more left r room c =
         let total : ℕ = totalEntries (linesIn (c .lines)) in
@@ -96,25 +91,27 @@ module _ (code pool : List ℕ) where
           tile = (e, c .tile);
           records-fit = omega (arith, c .records-fit);
           entries-fit = omega arith;
-          counts = λ k′ m′ q. let n = c .counts k′ m′ q in (omega (arith, n .0), omega (arith, n .1));
           ending = with-room records-left entries-left (c .ending);
         }
 
-    one-line : (rest : Lines) (records : ℕ) → ((left : ℕ) → Course (l .next) (k + 1) (m + own) left (entries - own) (runFrom (k + 1) (m + own) (fitting left (entries - own) rest))) → Course at k m records entries (runFrom k m (fitting records entries (Lines.line l rest)))
+    one-line :
+        (k m : ℕ) (rest : Lines) (records : ℕ)
+        → ((left : ℕ) → Course (l .next) left (entries - own) (runFrom (k + 1) (m + own) (fitting left (entries - own) rest)))
+        → Course at records entries (runFrom k m (fitting records entries (Lines.line l rest)))
     unfolding runFrom
-    one-line rest records more = go (leb own entries) refl records
+    one-line k m rest records more = go (leb own entries) refl records
       where
-        go : (t : Bool) → leb own entries ≡ t → (r : ℕ) → Course at k m r entries (runFrom k m (fitting r entries (Lines.line l rest)))
-        go true q (suc left) = subst (λ (ls : Lines). Course at k m (suc left) entries (runFrom k m ls)) (sym (fit-line l rest entries left (leb-true _ _ q))) (one-more left _ (leb-true _ _ q) (more left))
-        go true q zero = subst (λ (ls : Lines). Course at k m 0 entries (runFrom k m ls)) (sym (fit-15 l rest entries (leb-true _ _ q))) (refused-at-once at k m 0 entries 15 (l .at) (Ending.no-record this e (leb-true _ _ q) refl refl e))
-        go false q r = subst (λ (ls : Lines). Course at k m r entries (runFrom k m ls)) (sym (fit-14 l rest entries r (leb-false _ _ q))) (refused-at-once at k m r entries 14 (l .at) (Ending.no-entry this e (leb-false _ _ q) refl e))
+        go : (t : Bool) → leb own entries ≡ t → (r : ℕ) → Course at r entries (runFrom k m (fitting r entries (Lines.line l rest)))
+        go true q (suc left) = subst (λ (ls : Lines). Course at (suc left) entries (runFrom k m ls)) (sym (fit-line l rest entries left (leb-true _ _ q))) (one-more left _ (leb-true _ _ q) (more left))
+        go true q zero = subst (λ (ls : Lines). Course at 0 entries (runFrom k m ls)) (sym (fit-15 l rest entries (leb-true _ _ q))) (at-once at 0 entries _ (Ending.no-record this e (leb-true _ _ q) refl refl e))
+        go false q r = subst (λ (ls : Lines). Course at r entries (runFrom k m ls)) (sym (fit-14 l rest entries r (leb-false _ _ q))) (at-once at r entries _ (Ending.no-entry this e (leb-false _ _ q) refl e))
 
-  course : (ls : Lines) (at : CodeOffset) (k m records entries : ℕ) → Consecutive code pool at ls → Course at k m records entries (runFrom k m (fitting records entries ls))
+  course : (ls : Lines) (at : CodeOffset) (k m records entries : ℕ) → Consecutive code pool at ls → Course at records entries (runFrom k m (fitting records entries ls))
   unfolding fitting runFrom
-  course Lines.end at k m records entries c = at-once at k m records entries (run.Filled k m) (λ k′ m′ e. (let same : k′ ≡ k = cc in same, let same : m′ ≡ m = cc in same)) (Ending.filled c)
-  course (Lines.stop n p) at k m records entries c = refused-at-once at k m records entries n p (Ending.fault (c .0) (c .1))
+  course Lines.end at k m records entries c = at-once at records entries (run.Filled k m) (Ending.filled c)
+  course (Lines.stop n p) at k m records entries c = at-once at records entries (run.Refused n p) (Ending.fault (c .0) (c .1))
   course (Lines.line l rest) at k m records entries c =
-      one-line l at k m entries (c .0) (c .2) rest records (λ left. course rest (l .next) (k + 1) (m + entriesOf (l .instruction)) left (entries - entriesOf (l .instruction)) (c .3))
+      one-line l at entries (c .0) (c .2) k m rest records (λ left. course rest (l .next) (k + 1) (m + entriesOf (l .instruction)) left (entries - entriesOf (l .instruction)) (c .3))
 
 -- Where lines are stored up to an offset, what comes after them decides.
 module _ (code pool : List ℕ) (record-room entry-room : ℕ) (ls : List (Standing code pool)) (end : CodeOffset) (stored : StoredTo code pool record-room entry-room ls end) where
@@ -177,22 +174,19 @@ module _ (code pool : List ℕ) (record-room entry-room : ℕ) where
     is : answer ≡ decoded.Refused number place second
 
   -- All lines are stored: the check of their jumps decides
-  record Stored-all : Type 0 where
+  record StoredAll : Type 0 where
     lines : List (Standing code pool)
     stored : StoredTo code pool record-room entry-room lines (record { 0 = length code })
     is : answer ≡ judged (run.Filled (length lines) (totalEntries (linesIn lines))) (check (allJumpsDrawn lines))
 
   module _ (h : length code ≤ codeLimit) (k : length pool ≤ poolLimit) where
-    of-run : (r : Run) → answer ≡ judged r (check (jumpsOf code (fitted code pool record-room entry-room))) → Course code pool start 0 0 record-room entry-room r → Refusal ⊎ Stored-all
+    of-run : (r : Run) → answer ≡ judged r (check (jumpsOf code (fitted code pool record-room entry-room))) → Course code pool start record-room entry-room r → Refusal ⊎ StoredAll
     of-run r q c = by-ending r (c .ending) q
       where
-        ls : List (Standing code pool)
-        ls = c .lines
-
         stored : StoredTo code pool record-room entry-room (c .lines) (c .end)
         stored = record { short-code = h; short-pool = k; tile = c .tile; records-fit = c .records-fit; entries-fit = c .entries-fit }
 
-        by-ending : (r : Run) → Ending code pool (c .end) (record-room - length (c .lines)) (entry-room - totalEntries (linesIn (c .lines))) r → answer ≡ judged r (check (jumpsOf code (fitted code pool record-room entry-room))) → Refusal ⊎ Stored-all
+        by-ending : (r : Run) → Ending code pool (c .end) (record-room - length (c .lines)) (entry-room - totalEntries (linesIn (c .lines))) r → answer ≡ judged r (check (jumpsOf code (fitted code pool record-room entry-room))) → Refusal ⊎ StoredAll
         by-ending (run.Filled k′ m′) (Ending.filled e) q =
             let there : c .end ≡ record { 0 = length code } = ap (λ (i : ℕ). record { 0 = i }) e in
             inr (record { lines = c .lines; stored = subst (StoredTo code pool record-room entry-room (c .lines)) there stored; is = all-judged code pool record-room entry-room (c .lines) (c .end) stored e })
@@ -203,7 +197,7 @@ module _ (code pool : List ℕ) (record-room entry-room : ℕ) where
         by-ending (run.Refused n p) (Ending.no-record s at room none is there) q =
             inl (record { number = n; place = p; second = 0; why = Why.no-record-left (c .lines) s (subst (StoredTo code pool record-room entry-room (c .lines)) (sym at) stored) (omega (arith, c .entries-fit)) (omega (arith, c .records-fit)) (is, there ∙ sym at, refl); is = q })
 
-    by-course : Refusal ⊎ Stored-all
+    by-course : Refusal ⊎ StoredAll
     unfolding decoding
     by-course =
         of-run (runFrom 0 0 (fitted code pool record-room entry-room)) (both-within code pool (answerOf code (fitted code pool record-room entry-room)) h k)
@@ -219,7 +213,7 @@ module _ (code pool : List ℕ) (record-room entry-room : ℕ) where
       let same : onto (linesIn others) Lines.end ≡ onto (linesIn ls) Lines.end = sym (lines-are code pool others (record { 0 = length code }) Lines.end k refl) ∙ lines-are code pool ls (record { 0 = length code }) Lines.end h refl in
       sym (list-onto (linesIn others)) ∙ ap listOf same ∙ list-onto (linesIn ls)
 
-  judged-says : (a : Stored-all) (v : Checked) → check (allJumpsDrawn (a .lines)) ≡ v → Says (judged (run.Filled (length (a .lines)) (totalEntries (linesIn (a .lines)))) v)
+  judged-says : (a : StoredAll) (v : Checked) → check (allJumpsDrawn (a .lines)) ≡ v → Says (judged (run.Filled (length (a .lines)) (totalEntries (linesIn (a .lines)))) v)
   judged-says a checked.Good g =
       record {
         lines = a .lines;
