@@ -1,18 +1,20 @@
 // The methods of a bundle, one after another: for each its name, descriptor, pool table and code. Each of these sections is
 // its length, in two bytes or for the code in four, and then as many bytes.
+#![tactic(auto)]
+
 ghost use Rattle.std.specs.Prelude.{◌≡◌};
 ghost use Rattle.bundle.specs.Reading.{after_length, next_of};
 
 use read::{CodeOffset, Read};
 
 // Where a section's bytes start and end in the bundle.
-#[derive(Drop)]
+#[derive(Clone, Copy)]
 pub struct Section {
     pub start: usize,
     pub end: usize,
 }
 
-#[derive(Drop)]
+#[derive(Clone, Copy)]
 pub struct Sections {
     pub name: Section,
     pub descriptor: Section,
@@ -22,7 +24,7 @@ pub struct Sections {
 
 // What stands at an offset: a method, nothing because the bundle ends there, or a method that is cut short. The place is the
 // first byte of the length, or of the bytes, that the bundle is too short for.
-#[derive(Drop)]
+#[derive(Clone, Copy)]
 pub enum Next {
     Method(Sections),
     End,
@@ -30,7 +32,7 @@ pub enum Next {
 }
 
 // The same for one section.
-#[derive(Drop)]
+#[derive(Clone, Copy)]
 pub enum SectionRead {
     Whole(Section),
     CutShort(usize),

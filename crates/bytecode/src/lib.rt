@@ -1,5 +1,7 @@
 // A whole code decoded into two lent stores, as `ByteCode::from` of cafebabe's bytecode.rs. The time is linear in the code,
 // and for each jump logarithmic in the number of instructions.
+#![tactic(auto)]
+
 ghost use Rattle.std.specs.Prelude.{◌≡◌, ◌+◌, ◌*◌, ◌^◌, ◌≤◌, ◌<◌, length};
 ghost use Rattle.std.proofs.lemmas.List.Edits.{sets};
 ghost use Rattle.records.specs.Records.{record_words, entry_words, record_room, entry_room, words_of, all_entry_words};
@@ -29,14 +31,14 @@ pub const POOL_LIMIT: usize = 4096;
 
 // What decoding answers: the number of instructions and of switch entries, or a refusal's number, its place and its second
 // number.
-#[derive(Drop)]
+#[derive(Clone, Copy)]
 pub enum Decoded {
     Accepted(usize, usize),
     Refused(u32, CodeOffset, u32),
 }
 
 // What filling the stores answers, before any jump is looked at.
-#[derive(Drop)]
+#[derive(Clone, Copy)]
 pub enum Run {
     Filled(usize, usize),
     Refused(u32, CodeOffset),

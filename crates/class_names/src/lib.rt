@@ -1,5 +1,7 @@
 // The segments of class names, as `parse_unqualified_segment` of cafebabe's descriptors.rs reads them, and class names
 // that stand alone.
+#![tactic(auto)]
+
 ghost use Rattle.std.specs.Prelude.{false, ◌≡◌, drop};
 ghost use Rattle.class_names.specs.Names.{is_separator, is_barred, name_from, class_name, is_class_name};
 
@@ -15,14 +17,14 @@ pub const BARRED_BYTE: u32 = 26;
 pub const LONE_SEMICOLON: u32 = 28;
 
 // What the reading of a class name alone finds.
-#[derive(Drop)]
+#[derive(Clone, Copy)]
 pub enum Checked {
     Accepted,
     Refused(u32, usize),
 }
 
 // What a run of segments ends at: the `;` after one, the end of the text, or a refusal.
-#[derive(Drop)]
+#[derive(Clone, Copy)]
 pub enum NameEnd {
     Semicolon(usize),
     TextEnd(usize),

@@ -1,5 +1,7 @@
 // Field, return and array descriptors, as cafebabe's descriptors.rs reads them. Linear in the text: no
 // byte is read twice but for the one that a type begins with.
+#![tactic(auto)]
+
 ghost use Rattle.std.specs.Prelude.{◌≡◌, ◌+◌, ◌≤◌, ◌<◌, length, get_or, drop};
 ghost use Rattle.laws.specs.Bytes.{begins_with, text_limit};
 ghost use Rattle.descriptors.specs.Texts.{is_base_type, is_void, is_accepted, base, void, object, object_from, type_from, field_from, return_from, whole, field_prefix, field_text, return_prefix, return_text, array_text, is_field_text, is_return_text, is_array_text};
@@ -20,7 +22,7 @@ pub const LEFT_OVER: u32 = 31;
 
 // The parts of a descriptor, four words: the letter is a byte, and start and length are those of the class name in the
 // text, 0 and 0 without one.
-#[derive(Drop)]
+#[derive(Clone, Copy)]
 pub struct FieldDescriptor {
     pub dimensions: u32,
     pub letter: u32,
@@ -61,14 +63,14 @@ impl FieldDescriptor {
 }
 
 // What a reading finds: the parts and the bytes used, or a refusal's number and its place.
-#[derive(Drop)]
+#[derive(Clone, Copy)]
 pub enum Field {
     Parsed(FieldDescriptor, usize),
     Refused(u32, usize),
 }
 
 // What the reading of an array descriptor finds: the parts, that the text is none, or a refusal.
-#[derive(Drop)]
+#[derive(Clone, Copy)]
 pub enum Array {
     Parsed(FieldDescriptor),
     NotArray,

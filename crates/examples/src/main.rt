@@ -1,5 +1,7 @@
 // Document 01's settled examples, run through the entries: one line for each, with the whole answer and every word of what
 // was lent, those past the used ones too. The file stdout was written by hand from document 01, not from this program.
+#![tactic(auto)]
+
 ghost use Rattle.std.specs.Prelude.{◌≤◌};
 
 use bytecode::Decoded;

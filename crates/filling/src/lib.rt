@@ -1,4 +1,6 @@
 // An instruction written into the two lent stores: its record, and a switch's entries.
+#![tactic(auto)]
+
 ghost use Rattle.std.specs.Prelude.{◌≡◌, ◌+◌, ◌*◌, ◌^◌, ◌≤◌, ◌<◌, length};
 ghost use Rattle.std.proofs.lemmas.List.Edits.{sets};
 ghost use Rattle.records.specs.Records.{entry_words, entry_room, all_entry_words};

@@ -1,4 +1,6 @@
 // The identifier under which a method's records are kept.
+#![tactic(auto)]
+
 ghost use Rattle.std.specs.Prelude.{◌≡◌, ◌≤◌, length};
 ghost use Rattle.laws.specs.Bytes.{text_limit};
 ghost use Rattle.output.specs.Output.{writing, output_after};

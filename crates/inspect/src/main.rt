@@ -1,4 +1,6 @@
 // Shows what the station would say of each method of a bundle, which is read from standard input.
+#![tactic(auto)]
+
 ghost use Rattle.std.specs.Prelude.{◌≡◌, ◌+◌, ◌≤◌, ◌<◌, length};
 ghost use Rattle.records.specs.Records.{entry_room};
 ghost use Rattle.lookup.specs.Lookup.{Sorted};
@@ -237,7 +239,7 @@ fn one_if(accepted: bool) -> usize
 }
 
 // How far a bundle was shown, and how many methods that were, with how many of them accepted.
-#[derive(Drop)]
+#[derive(Clone, Copy)]
 struct Shown {
     at: usize,
     methods: usize,

@@ -1,4 +1,6 @@
 // One instruction at an offset of the code, as the arms of `read_opcodes` in cafebabe's bytecode.rs.
+#![tactic(auto)]
+
 ghost use Rattle.std.specs.Prelude.{◌≡◌, ◌^◌, ◌<◌};
 ghost use Rattle.opcodes.specs.Formats.{Represents};
 ghost use Rattle.opcodes.specs.Operands.{layout_of};

@@ -1,5 +1,7 @@
 // The check of the stored jumps, as `validate_jumps` of cafebabe's bytecode.rs. The instruction of a record and where its
 // jumps lead are told by the words of the two stores alone.
+#![tactic(auto)]
+
 ghost use Rattle.std.specs.Prelude.{◌≡◌, ◌+◌, ◌^◌, ◌≤◌, ◌<◌};
 ghost use Rattle.laws.specs.Listed.{listed};
 ghost use Rattle.records.specs.Records.{entry_room};
@@ -16,14 +18,14 @@ pub const BELOW_ZERO: u32 = 12;
 pub const NO_TARGET: u32 = 13;
 
 // Where a jump leads: before the code, or to an offset.
-#[derive(Drop)]
+#[derive(Clone, Copy)]
 pub enum Target {
     Below,
     At(CodeOffset),
 }
 
 // What a check finds: all is good, or a refusal's number, its place and its second number.
-#[derive(Drop)]
+#[derive(Clone, Copy)]
 pub enum Checked {
     Good,
     Bad(u32, CodeOffset, u32),

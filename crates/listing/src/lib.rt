@@ -1,5 +1,7 @@
 // The lines of a listing like javap's, written at the front of a lent output. Each piece of a line is written from an
 // offset on, and the answer is the offset after it.
+#![tactic(auto)]
+
 ghost use Rattle.std.specs.Prelude.{◌≡◌, ◌+◌, ◌*◌, ◌≤◌, ◌<◌, length};
 ghost use Rattle.laws.specs.Bytes.{ascii};
 ghost use Rattle.opcodes.specs.Formats.{format_of};

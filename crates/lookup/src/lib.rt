@@ -1,5 +1,7 @@
 // The record of an offset, as `get_opcode_index` of cafebabe's bytecode.rs: the search halves the span and asks itself
 // again until it is empty.
+#![tactic(auto)]
+
 ghost use Rattle.std.specs.Prelude.{◌≡◌, ◌+◌, ◌≤◌};
 ghost use Rattle.laws.specs.Bytes.{one_of};
 ghost use Rattle.records.specs.Records.{record_room};
@@ -12,7 +14,7 @@ use records::{RECORD_WORDS, RecordIndex};
 pub const NOT_SORTED: u32 = 35;
 
 // What a lookup answers: the index of the record, that there is none, or a refusal's number and its place.
-#[derive(Drop)]
+#[derive(Clone, Copy)]
 pub enum Found {
     At(RecordIndex),
     Nothing,

@@ -1,5 +1,7 @@
 // Method descriptors printed from their parts, as the `Display` parts of cafebabe's descriptors.rs, into a lent output.
 // An output is written only once its room is known, so a refusal changes nothing.
+#![tactic(auto)]
+
 ghost use Rattle.std.specs.Prelude.{◌≡◌, ◌+◌, ◌*◌, ◌≤◌, length, drop};
 ghost use Rattle.std.proofs.Math.Bool.{So};
 ghost use Rattle.std.proofs.lemmas.List.Edits.{sets};
@@ -16,7 +18,7 @@ use output::Output;
 use printing::BROKEN_PARTS;
 
 // The length of the bytes of parameters, capped, or that one of them breaks the rules.
-#[derive(Drop)]
+#[derive(Clone, Copy)]
 pub enum ParametersLength {
     Capped(usize),
     Broken,

@@ -1,5 +1,7 @@
 // Method descriptors, as cafebabe's descriptors.rs reads them, with the parameters' parts in a lent store. Linear in the
 // text: a parameter is read once.
+#![tactic(auto)]
+
 ghost use Rattle.std.specs.Prelude.{◌≡◌, ◌+◌, ◌*◌, ◌≤◌, length, drop};
 ghost use Rattle.std.proofs.lemmas.List.Edits.{sets};
 ghost use Rattle.laws.specs.Bytes.{text_limit};
@@ -18,7 +20,7 @@ pub const NO_RECORD_LEFT: u32 = 30;
 pub const PART_WORDS: usize = 4;
 
 // What a reading finds: the number of parameters, the return part and the bytes used, or a refusal's number and its place.
-#[derive(Drop)]
+#[derive(Clone, Copy)]
 pub enum Method {
     Parsed(usize, FieldDescriptor, usize),
     Refused(u32, usize),
@@ -26,7 +28,7 @@ pub enum Method {
 
 // What stands where a parameter may: a parameter and the offset after it, `)` and the return part with the bytes used,
 // or a refusal.
-#[derive(Drop)]
+#[derive(Clone, Copy)]
 pub enum Next {
     Parameter(FieldDescriptor, usize),
     Return(FieldDescriptor, usize),

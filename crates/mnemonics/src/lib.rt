@@ -1,4 +1,6 @@
 // The mnemonics of the instructions.
+#![tactic(auto)]
+
 ghost use Rattle.std.specs.Prelude.{◌≡◌, ◌+◌, ◌≤◌, length};
 ghost use Rattle.phrases.specs.Puts.{Puts};
 ghost use Rattle.mnemonics.specs.Mnemonics.{mnemonic_table, mnemonic_of};

@@ -1,5 +1,7 @@
 // The four name checks of cafebabe's names.rs. A byte of 128 or more is an ordinary name byte, which on UTF-8 agrees
 // with the checks on characters there. A name over the limit of a text is none.
+#![tactic(auto)]
+
 ghost use Rattle.std.specs.Prelude.{◌≡◌};
 ghost use Rattle.names.specs.Names.{name_byte, name_text, plain_module_byte, escapable, is_unqualified_name, is_method_name, is_binary_name, is_module_name};
 

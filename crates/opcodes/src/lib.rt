@@ -1,4 +1,6 @@
 // Which operands follow each opcode, as data, and which instructions share a kind.
+#![tactic(auto)]
+
 ghost use Rattle.std.specs.Prelude.{◌≡◌};
 ghost use Rattle.opcodes.specs.Formats.{numbers, numbered, format_of, Represents};
 ghost use Rattle.opcodes.specs.Wide.{wide_form_of};
@@ -7,7 +9,7 @@ ghost use Rattle.opcodes.specs.InstructionKinds.{kind_of};
 use pool::Kinds;
 
 // What follows a pool index of two bytes: nothing, a count, a count and a zero byte, or two zero bytes.
-#[derive(Drop)]
+#[derive(Clone, Copy)]
 pub enum Follow {
     Nothing,
     Count,
@@ -16,7 +18,7 @@ pub enum Follow {
 }
 
 // The operand format of an opcode: what follows its byte.
-#[derive(Drop)]
+#[derive(Clone, Copy)]
 pub enum Format {
     Plain,
     SignedByte,
@@ -36,7 +38,7 @@ pub enum Format {
 }
 
 // The form of the instruction that `wide` modifies.
-#[derive(Drop)]
+#[derive(Clone, Copy)]
 pub enum WideForm {
     Local,
     Increment,

@@ -1,4 +1,6 @@
 // What the bytes of an operand mean: each check goes from a read to a read, and a refusal passes through.
+#![tactic(auto)]
+
 ghost use Rattle.std.specs.Prelude.{◌≡◌};
 ghost use Rattle.operands.specs.Signed.{extended};
 ghost use Rattle.operands.specs.Checks.{signed_read, index_fault, index_read, zero_read, array_tag_read};

@@ -1,5 +1,7 @@
 // The instructions that are an opcode with its operands, and those after `wide`. Operands are read in order, and the
 // first refusal is the answer. A function that takes no pool reads operands that name none: on paper its pool is `[]`.
+#![tactic(auto)]
+
 ghost use Rattle.std.specs.Prelude.{◌≡◌, [], ◌∷◌};
 ghost use Rattle.opcodes.specs.Operands.{follow_of, increment_of};
 ghost use Rattle.ordinary.specs.Ordinary.{with_first, with_second, operands_from, indexed, widened, wide_step};
@@ -12,7 +14,7 @@ pub const NOT_AFTER_WIDE: u32 = 5;
 
 // An instruction as numbers. An ordinary one: its kind and its first two operands, 0 for one that it has not. A switch:
 // its default, its bounds if it is a table, the offset of its entries and how many they are.
-#[derive(Drop)]
+#[derive(Clone, Copy)]
 pub enum Instruction {
     Ordinary(u32, u32, u32),
     TableSwitch(u32, u32, u32, CodeOffset, u32),
@@ -20,7 +22,7 @@ pub enum Instruction {
 }
 
 // What stands at an offset: an instruction and the offset after it, or a refusal's number and its place.
-#[derive(Drop)]
+#[derive(Clone, Copy)]
 pub enum Step {
     Decoded(Instruction, CodeOffset),
     Refused(u32, CodeOffset),

@@ -1,4 +1,6 @@
 // A lent output of bytes.
+#![tactic(auto)]
+
 ghost use Rattle.std.specs.Prelude.{◌≡◌, ◌+◌, ◌≤◌, length, replicate};
 ghost use Rattle.std.proofs.lemmas.List.Edits.{sets};
 
@@ -6,7 +8,7 @@ ghost use Rattle.std.proofs.lemmas.List.Edits.{sets};
 pub const TOO_SHORT: u32 = 33;
 
 // What a writing answers: the length written, or a refusal's number and its place.
-#[derive(Drop)]
+#[derive(Clone, Copy)]
 pub enum Output {
     Written(usize),
     Refused(u32, usize),

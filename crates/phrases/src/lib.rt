@@ -1,5 +1,7 @@
 // The pieces of a line: texts of a table, numbers and blanks. Each is written into a lent output from an offset on, and
 // the answer is the offset after it, so that the next piece starts there.
+#![tactic(auto)]
+
 ghost use Rattle.std.specs.Prelude.{◌≡◌, ◌+◌, ◌-◌, ◌≤◌, length, drop};
 ghost use Rattle.phrases.specs.Puts.{Puts};
 ghost use Rattle.phrases.specs.Texts.{before_bar, item};

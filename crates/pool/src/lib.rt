@@ -1,4 +1,6 @@
 // The constant pool as a lent table of kinds: byte i is the tag of entry i.
+#![tactic(auto)]
+
 ghost use Rattle.std.specs.Prelude.{◌≡◌};
 ghost use Rattle.pool.specs.Tags.{allows_tag};
 ghost use Rattle.pool.specs.Entries.{entry_at, entry_of_kind};
@@ -9,7 +11,7 @@ pub const NO_ENTRY: u32 = 6;
 pub const WRONG_KIND: u32 = 7;
 
 // The sets of kinds that an instruction may name.
-#[derive(Drop)]
+#[derive(Clone, Copy)]
 pub enum Kinds {
     Loadable,
     Field,
@@ -21,7 +23,7 @@ pub enum Kinds {
 }
 
 // What an index names: the tag of an entry, or a refusal's number. The place is the index's own, which the caller knows.
-#[derive(Drop)]
+#[derive(Clone, Copy)]
 pub enum Entry {
     Found(u8),
     Refused(u32),

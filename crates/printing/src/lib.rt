@@ -1,6 +1,8 @@
 // Field and return descriptors printed from their parts, as the `Display` parts of cafebabe's descriptors.rs, into a lent
 // output. An output is written only once its room is known, so a refusal changes nothing. A text is seen to be within
 // the limit before any part is looked at, so that no name is longer than that.
+#![tactic(auto)]
+
 ghost use Rattle.std.specs.Prelude.{◌≡◌, ◌+◌, ◌≤◌, length};
 ghost use Rattle.std.proofs.Math.Bool.{So};
 ghost use Rattle.std.proofs.lemmas.List.Edits.{sets};

@@ -1,5 +1,7 @@
 // Instruction records and switch entries as values, and their words in a lent store (document 01, "Instructions as
 // records"). What is written or read must lie in the store: `bytecode` sees to it before it calls.
+#![tactic(auto)]
+
 ghost use Rattle.std.specs.Prelude.{◌≡◌, ◌+◌, ◌*◌, ◌≤◌, length};
 ghost use Rattle.std.proofs.lemmas.List.Edits.{sets};
 ghost use Rattle.records.specs.Records.{record_words, entry_words, words_of, record_at, offset_at, entry_words_of, entry_at};
@@ -7,7 +9,7 @@ ghost use Rattle.records.specs.Records.{record_words, entry_words, words_of, rec
 use read::CodeOffset;
 
 // An index of a record or of an entry in its store, which is never an offset in the code.
-#[derive(Drop)]
+#[derive(Clone, Copy)]
 pub struct RecordIndex(pub usize);
 
 // The words of a record and of an entry. On paper: `record_words` and `entry_words`.
@@ -20,7 +22,7 @@ pub const TABLE_SWITCH_KIND: u32 = 0xaa;
 
 pub const LOOKUP_SWITCH_KIND: u32 = 0xab;
 
-#[derive(Drop)]
+#[derive(Clone, Copy)]
 pub struct Record {
     pub offset: u32,
     pub kind: u32,
@@ -30,7 +32,7 @@ pub struct Record {
     pub d: u32,
 }
 
-#[derive(Drop)]
+#[derive(Clone, Copy)]
 pub struct SwitchEntry {
     pub key: u32,
     pub jump: u32,

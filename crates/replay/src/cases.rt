@@ -9,7 +9,7 @@ use crate::list::{
 use station::{Answer, Parts};
 
 // The four words of a part, and what follows them.
-#[derive(Drop)]
+#[derive(Clone, Copy)]
 struct Part {
     dimensions: u32,
     letter: u32,

@@ -2,7 +2,7 @@
 use crate::list::{Cursor, DECIMAL, HEXADECIMAL, Next, close, next_number};
 use station::{Answer, Parts};
 
-#[derive(Drop)]
+#[derive(Clone, Copy)]
 pub enum Verdict {
     Agrees,
     // The first number that the list does not expect.
@@ -13,7 +13,7 @@ pub enum Verdict {
 
 // A case that has been run: the number of its answer, and how far that agrees. After the first difference nothing is
 // looked at, so that the cursor tells its place.
-#[derive(Drop)]
+#[derive(Clone, Copy)]
 pub struct Trial {
     pub refusal: u32,
     pub cursor: Cursor,

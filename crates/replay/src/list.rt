@@ -11,7 +11,7 @@ pub const HEXADECIMAL: u64 = 16;
 const NO_DIGIT: u64 = 16;
 
 // A place in the list, and a number that still comes so many times before what stands there.
-#[derive(Drop)]
+#[derive(Clone, Copy)]
 pub struct Cursor {
     pub at: usize,
     pub quoted: bool,
@@ -20,21 +20,21 @@ pub struct Cursor {
 }
 
 // The next number of a section, or its end.
-#[derive(Drop)]
+#[derive(Clone, Copy)]
 pub enum Next {
     Number(u64, Cursor),
     End(Cursor),
 }
 
 // One number, and what follows it.
-#[derive(Drop)]
+#[derive(Clone, Copy)]
 pub struct Single {
     pub value: u64,
     pub after: Cursor,
 }
 
 // A section that was read into a store: how many numbers it has, and where the next section starts.
-#[derive(Drop)]
+#[derive(Clone, Copy)]
 pub struct Section {
     pub count: usize,
     pub after: Cursor,

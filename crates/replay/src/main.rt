@@ -1,6 +1,8 @@
 // Runs the fixed list of cases in data/ through the library's functions, and says which answers are not the listed ones.
 // Those come from document 01 itself (settled) and from a plain model of it (compare/run replay-list), never from the
 // library.
+#![tactic(auto)]
+
 mod cases;
 mod expect;
 mod list;
@@ -17,7 +19,7 @@ const NUMBERS: usize = 36;
 // How many files `run_nth` knows.
 const FILES: usize = 12;
 
-#[derive(Drop)]
+#[derive(Clone, Copy)]
 struct Totals {
     cases: u64,
     differing: u64,

@@ -1,5 +1,7 @@
 // The C library of the product: each entry with its answer as one struct of numbers. A slice crosses as a pointer and a
 // count of elements.
+#![tactic(auto)]
+
 ghost use Rattle.std.specs.Prelude.{◌≡◌, length};
 ghost use Rattle.names.specs.Names.{is_unqualified_name, is_method_name, is_binary_name, is_module_name};
 ghost use Rattle.class_names.specs.Names.{class_name};
@@ -24,7 +26,7 @@ use read::CodeOffset;
 // Number 0 is acceptance, and `first` and `next` say what the entry found. Any other number is a refusal with its place and
 // its second number.
 #[repr(C)]
-#[derive(Drop)]
+#[derive(Clone, Copy)]
 pub struct Answer {
     pub number: u32,
     pub second: u32,
@@ -36,7 +38,7 @@ pub struct Answer {
 // The parts of a descriptor, for a method those of its return. Number 0 is acceptance; any other is a refusal with its
 // place.
 #[repr(C)]
-#[derive(Drop)]
+#[derive(Clone, Copy)]
 pub struct Parts {
     pub number: u32,
     pub dimensions: u32,

@@ -1,4 +1,6 @@
 // A lent store of words.
+#![tactic(auto)]
+
 ghost use Rattle.std.specs.Prelude.{◌≡◌, length, replicate};
 
 // Every word is zero, those past the last whole record too.

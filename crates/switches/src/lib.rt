@@ -1,4 +1,6 @@
 // The two switches. The time of a step does not grow with the entries: that they fit is seen from their number.
+#![tactic(auto)]
+
 ghost use Rattle.std.specs.Prelude.{◌≡◌, ◌+◌, ◌%◌, ◌^◌, ◌<◌};
 ghost use Rattle.read.specs.Reads.{read_of};
 ghost use Rattle.switches.specs.Switches.{padded, words_from, entry_count, table_entries, table_step, lookup_entries, lookup_step};

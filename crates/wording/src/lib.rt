@@ -1,5 +1,7 @@
 // The operands of an instruction in words, by its format and its record. Each piece is written from an offset on, and the
 // answer is the offset after it.
+#![tactic(auto)]
+
 ghost use Rattle.std.specs.Prelude.{◌≡◌, ◌++◌, ◌+◌, ◌≤◌, length, get_or};
 ghost use Rattle.laws.specs.Bytes.{ascii};
 ghost use Rattle.phrases.specs.Puts.{Puts};
