@@ -1,0 +1,23 @@
+use mathlib.Core.Path.{refl}
+use native.Mathlib.Omega.{arith}
+use Rattle.switches.specs.Entries.{table_from}
+use Rattle.filling.proofs.Laws.{filled_none, filled_next, filled_all}
+use Rattle.filling.proofs.put_table.Goals as goal
+
+pub loop-i-init : goal.loop-i-init
+loop-i-init c = (omega arith, omega arith, filled_none _ _ _ _ (rw (c.to_usize-key.ensures, c.to_usize-number.ensures)))
+
+pub put_entry-requires : goal.put_entry-requires
+put_entry-requires c = omega (arith, c.loop-i.invariant.2.kept)
+
+pub loop-i-preserved : goal.loop-i-preserved
+unfolding table_from
+loop-i-preserved c =
+    (omega arith, omega arith, filled_next _ _ _ _ c.loop-i.invariant.2 _ _ (λ k. rw c.number_4.ensures.is) c.loop-i-test.true c.put_entry.ensures)
+
+pub shape_of-entries : goal.shape_of-entries
+shape_of-entries c = c.loop-i.invariant.2.kept
+
+pub returns : goal.returns
+unfolding table_from
+returns c = filled_all _ _ _ _ c.loop-i.invariant.2 refl c.loop-i-test.false

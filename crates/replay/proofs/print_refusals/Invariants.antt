@@ -1,0 +1,8 @@
+use Rattle.std.proofs.Common.{◌-◌}
+use Rattle.replay.proofs.print_refusals.Given as goal
+
+abbrev pub invariant-loop-number : goal.invariant-loop-number
+invariant-loop-number l = Unit
+
+abbrev pub decreases-loop-number : goal.decreases-loop-number
+decreases-loop-number l = 36 - number
