@@ -44,8 +44,8 @@ module _ (code pool : List ℕ) where
       ⊎_elim
       (λ e. subst (λ (l : Line). step_of code pool l.at ≡ step.Decoded l.instruction l.next) (sym e) (ap (step_of code pool) f.0 ∙ f.2))
       (each_decoded rest x.next f.3) (Memᴰ.cases_cons m)
-  each_decoded Lines.end at f m = absurd (Memᴰ.not_nil m)
-  each_decoded (Lines.stop n p) at f m = absurd (Memᴰ.not_nil m)
+  each_decoded Lines.end at f m = absurd (Memᴰ.not-nil m)
+  each_decoded (Lines.stop n p) at f m = absurd (Memᴰ.not-nil m)
 
   tiles : (ls : Lines) (at : CodeOffset) (k m k' m' : ℕ) → Consecutive code pool at ls → run_from k m ls ≡ run.Filled k' m' → Tiles at.0 (map (node_of code) (list_of ls)) (length code)
   unfolding list_of run_from

@@ -59,7 +59,7 @@ record Part (nodes : List Node) (end : ℕ) (n : Node) : Type 0 where
   tiled : Tiles n.next after end
 
 part : (nodes : List Node) (from end : ℕ) → Tiles from nodes end → {n : Node} → Memᴰ n nodes → Part nodes end n
-part [] from end t m = absurd (Memᴰ.not_nil m)
+part [] from end t m = absurd (Memᴰ.not-nil m)
 part (x ∷ nodes) from end t m =
     ⊎_elim
     (λ e. subst (Part (x ∷ nodes) end) (sym e) (record { before = []; after = nodes; split = refl; long = t.1; tiled = t.2 }))

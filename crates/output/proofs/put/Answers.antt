@@ -9,12 +9,11 @@ pub loop-i-init : goal.loop-i-init
 loop-i-init c = (search rules, refl, refl)
 
 pub loop-i-preserved : goal.loop-i-preserved
-loop-i-preserved c =
-    (
-      search rules,
-      simp length-set (search rules),
-      copy_more _ _ _ _ _ c.loop-i-test.true c.loop-i.invariant.2,
-    )
+loop-i-preserved c = (
+  search rules,
+  simp length-set (search rules),
+  copy_more _ _ _ _ _ c.loop-i-test.true c.loop-i.invariant.2,
+)
 
 pub returns : goal.returns
 returns c = c.loop-i.invariant.2 ∙ ap (sets _ _) (take_all _ _ c.loop-i-test.false)
