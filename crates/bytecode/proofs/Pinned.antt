@@ -2,10 +2,11 @@
 -- checker makes of src/.
 use Rattle.laws.specs.Pinned.{Settles}
 use Rattle.laws.proofs.Pinned.{result_lent_lent}
-use Rattle.bytecode.proofs.decode as decode
+use Rattle.bytecode.specs.contracts.decode as decode
+use Rattle.bytecode.proofs.decode.Reads as reads
 
 abbrev pub DecodeSettled : Type 0
-DecodeSettled = Settles decode.ended decode.Reads.Learnt
+DecodeSettled = Settles decode.ended reads.Learnt
 
 pub decode_settled : DecodeSettled
 decode_settled κs a = result_lent_lent 2 0

@@ -35,14 +35,17 @@ module _ (records : List ℕ) (count : ℕ) (x : CodeOffset) (small : count ≤ 
   told found.Nothing f e =
       rw (eq-eqb _ _ e)
       (sym (not-true _ ((so_not _).1 (λ h. let m = (one_of_offsets records count x.0).0 h in f m.0 (omega arith) (omega (arith, m.1)) m.2))))
+  told (found.Refused _ _) f e = elim f [ ]
 
   told_nothing : (a : Found) → Fits records x 0 count a → r ≡ number_of a → r ≡ nowhere → found.Nothing ≡ a
   told_nothing (found.At k) f e n = absurd (omega (arith, f.1, e, n))
   told_nothing found.Nothing f e n = refl
+  told_nothing (found.Refused _ _) f e n = elim f [ ]
 
   told_index : (a : Found) → Fits records x 0 count a → r ≡ number_of a → (r ≡ nowhere → ⊥) → found.At (index r) ≡ a
   told_index (found.At k) f e n = ap (λ (i : ℕ). found.At (index i)) e
   told_index found.Nothing f e n = absurd (n e)
+  told_index (found.Refused _ _) f e n = elim f [ ]
 
   pub is_offset : r ≡ number_of (first_from records x (index 0) count) → not (eqb r nowhere) ≡ one_of (offsets_of records count) x.0
   is_offset e = told (first_from records x (index 0) count) (fits records x count (index 0)) e

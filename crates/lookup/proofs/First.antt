@@ -45,6 +45,7 @@ module _ (records : List ℕ) (x : CodeOffset) where
       → (a : Found) → Fits j m a → Fits i n a
   wider i n j m p q inside (found.At k) f = (omega (arith, f.0), omega (arith, f.1), f.2)
   wider i n j m p q inside found.Nothing f = λ k l h e. let there = inside k l h e in f k there.0 there.1 e
+  wider i n j m p q inside (found.Refused _ _) f = elim f [ ]
 
   pub fits : (n : ℕ) (i : RecordIndex) → Fits i.0 n (first_from records x i n)
   unfolding first_from
@@ -60,6 +61,9 @@ module _ (records : List ℕ) (x : CodeOffset) where
 
   one_answer : (i n : ℕ) → Sorted records (i + n) → (a b : Found) → Fits i n a → Fits i n b → a ≡ b
   one_answer i n sorted (found.At j) (found.At k) f g = ap (λ (m : ℕ). found.At (index m)) (same_record sorted _ _ f.1 g.1 (f.2 ∙ sym g.2))
+  one_answer i n sorted (found.At j) (found.Refused _ _) f g = elim g [ ]
+  one_answer i n sorted found.Nothing (found.Refused _ _) f g = elim g [ ]
+  one_answer i n sorted (found.Refused _ _) b f g = elim f [ ]
   one_answer i n sorted (found.At j) found.Nothing f g = absurd (g _ f.0 f.1 f.2)
   one_answer i n sorted found.Nothing (found.At k) f g = absurd (f _ g.0 g.1 g.2)
   one_answer i n sorted found.Nothing found.Nothing f g = refl

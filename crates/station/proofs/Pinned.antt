@@ -2,31 +2,32 @@
 -- statement stands here, since specs/ may not name what the checker makes of src/.
 use Rattle.laws.specs.Pinned.{Settles}
 use Rattle.laws.proofs.Pinned.{result, result_lent, result_lent_lent}
+use Rattle.station.specs.contracts
 use Rattle.station.proofs as station
 
 pub record StationSettled : Type 0 where
-  pub nk_decode : Settles station.nk_decode.ended station.nk_decode.Reads.Learnt
-  pub nk_lookup : Settles station.nk_lookup.ended station.nk_lookup.Reads.Learnt
-  pub nk_class_name : Settles station.nk_class_name.ended station.nk_class_name.Reads.Learnt
-  pub nk_print_field : Settles station.nk_print_field.ended station.nk_print_field.Reads.Learnt
-  pub nk_print_return : Settles station.nk_print_return.ended station.nk_print_return.Reads.Learnt
-  pub nk_print_method : Settles station.nk_print_method.ended station.nk_print_method.Reads.Learnt
-  pub nk_identifier : Settles station.nk_identifier.ended station.nk_identifier.Reads.Learnt
-  pub nk_field_prefix : Settles station.nk_field_prefix.ended station.nk_field_prefix.Reads.Learnt
-  pub nk_field_whole : Settles station.nk_field_whole.ended station.nk_field_whole.Reads.Learnt
-  pub nk_return_prefix : Settles station.nk_return_prefix.ended station.nk_return_prefix.Reads.Learnt
-  pub nk_return_whole : Settles station.nk_return_whole.ended station.nk_return_whole.Reads.Learnt
-  pub nk_array : Settles station.nk_array.ended station.nk_array.Reads.Learnt
-  pub nk_method_prefix : Settles station.nk_method_prefix.ended station.nk_method_prefix.Reads.Learnt
-  pub nk_method_whole : Settles station.nk_method_whole.ended station.nk_method_whole.Reads.Learnt
-  pub nk_is_binary_name : Settles station.nk_is_binary_name.ended station.nk_is_binary_name.Reads.Learnt
-  pub nk_is_unqualified_name : Settles station.nk_is_unqualified_name.ended station.nk_is_unqualified_name.Reads.Learnt
-  pub nk_is_method_name : Settles station.nk_is_method_name.ended station.nk_is_method_name.Reads.Learnt
-  pub nk_is_module_name : Settles station.nk_is_module_name.ended station.nk_is_module_name.Reads.Learnt
-  pub nk_is_field_descriptor : Settles station.nk_is_field_descriptor.ended station.nk_is_field_descriptor.Reads.Learnt
-  pub nk_is_array_descriptor : Settles station.nk_is_array_descriptor.ended station.nk_is_array_descriptor.Reads.Learnt
-  pub nk_is_return_descriptor : Settles station.nk_is_return_descriptor.ended station.nk_is_return_descriptor.Reads.Learnt
-  pub nk_is_method_descriptor : Settles station.nk_is_method_descriptor.ended station.nk_is_method_descriptor.Reads.Learnt
+  pub nk_decode : Settles contracts.nk_decode.ended station.nk_decode.Reads.Learnt
+  pub nk_lookup : Settles contracts.nk_lookup.ended station.nk_lookup.Reads.Learnt
+  pub nk_class_name : Settles contracts.nk_class_name.ended station.nk_class_name.Reads.Learnt
+  pub nk_print_field : Settles contracts.nk_print_field.ended station.nk_print_field.Reads.Learnt
+  pub nk_print_return : Settles contracts.nk_print_return.ended station.nk_print_return.Reads.Learnt
+  pub nk_print_method : Settles contracts.nk_print_method.ended station.nk_print_method.Reads.Learnt
+  pub nk_identifier : Settles contracts.nk_identifier.ended station.nk_identifier.Reads.Learnt
+  pub nk_field_prefix : Settles contracts.nk_field_prefix.ended station.nk_field_prefix.Reads.Learnt
+  pub nk_field_whole : Settles contracts.nk_field_whole.ended station.nk_field_whole.Reads.Learnt
+  pub nk_return_prefix : Settles contracts.nk_return_prefix.ended station.nk_return_prefix.Reads.Learnt
+  pub nk_return_whole : Settles contracts.nk_return_whole.ended station.nk_return_whole.Reads.Learnt
+  pub nk_array : Settles contracts.nk_array.ended station.nk_array.Reads.Learnt
+  pub nk_method_prefix : Settles contracts.nk_method_prefix.ended station.nk_method_prefix.Reads.Learnt
+  pub nk_method_whole : Settles contracts.nk_method_whole.ended station.nk_method_whole.Reads.Learnt
+  pub nk_is_binary_name : Settles contracts.nk_is_binary_name.ended station.nk_is_binary_name.Reads.Learnt
+  pub nk_is_unqualified_name : Settles contracts.nk_is_unqualified_name.ended station.nk_is_unqualified_name.Reads.Learnt
+  pub nk_is_method_name : Settles contracts.nk_is_method_name.ended station.nk_is_method_name.Reads.Learnt
+  pub nk_is_module_name : Settles contracts.nk_is_module_name.ended station.nk_is_module_name.Reads.Learnt
+  pub nk_is_field_descriptor : Settles contracts.nk_is_field_descriptor.ended station.nk_is_field_descriptor.Reads.Learnt
+  pub nk_is_array_descriptor : Settles contracts.nk_is_array_descriptor.ended station.nk_is_array_descriptor.Reads.Learnt
+  pub nk_is_return_descriptor : Settles contracts.nk_is_return_descriptor.ended station.nk_is_return_descriptor.Reads.Learnt
+  pub nk_is_method_descriptor : Settles contracts.nk_is_method_descriptor.ended station.nk_is_method_descriptor.Reads.Learnt
 
 pub station_settled : StationSettled
 station_settled =

@@ -68,12 +68,12 @@ lookup_length t =
 pub length_table : (code : List ℕ) (key : ℕ) (at : CodeOffset) (n : ℕ) → length (table_from code key at n) ≡ n
 unfolding table_from
 length_table code key at zero = refl
-length_table code key at (suc n) = ap suc (length_table code _ _ n)
+length_table code key at (suc n) = ap suc (length_table code (key + 1) (after 4 at) n)
 
 pub length_pairs : (code : List ℕ) (at : CodeOffset) (n : ℕ) → length (pairs_from code at n) ≡ n
 unfolding pairs_from
 length_pairs code at zero = refl
-length_pairs code at (suc n) = ap suc (length_pairs code _ n)
+length_pairs code at (suc n) = ap suc (length_pairs code (after 8 at) n)
 
 module _ (code : List ℕ) where
   part : {n : ℕ} (at : CodeOffset) (first rest : List ℕ) → length first ≡ n → Stand code at (first ++ rest) → Stand code at first × Stand code (after n at) rest

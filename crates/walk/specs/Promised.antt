@@ -4,18 +4,19 @@ use Rattle.std.specs.Prelude.{ℕ, List, ◌≡◌, length}
 use contract.Lifetimes.{Lfts}
 use denote.Triple.Clauses.{AtExit}
 use denote.Triple.Entry.{Args, Res}
-use Rattle.bytecode.proofs as bytecode
+use Rattle.bytecode.specs.contracts.decode as decode
+use Rattle.bytecode.proofs.decode.Reads as reads
 use Rattle.bytecode.specs.declared.Decoded.TheVariants as decoded
 use Rattle.walk.specs.Walk.{Tiles, Along, Safe}
 use Rattle.walk.specs.Nodes.{nodes_of, nodes_in, Decodes}
 
 -- A call of `decode`, and what its caller learns from the `ensures`
 pub record Call : Type 0 where
-  pub lifetimes : Lfts (bytecode.decode.ended).signature.lifetimes
-  pub arguments : Args (bytecode.decode.ended).signature lifetimes
-  pub answer : Res (bytecode.decode.ended).signature lifetimes
-  pub exit : AtExit bytecode.decode.ended lifetimes
-  pub learnt : bytecode.decode.Reads.Learnt lifetimes arguments answer exit
+  pub lifetimes : Lfts decode.ended.signature.lifetimes
+  pub arguments : Args decode.ended.signature lifetimes
+  pub answer : Res decode.ended.signature lifetimes
+  pub exit : AtExit decode.ended lifetimes
+  pub learnt : reads.Learnt lifetimes arguments answer exit
 
 -- what it was given, in the order of the parameters
 abbrev pub code_of : Call → List ℕ

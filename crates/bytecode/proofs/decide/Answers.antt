@@ -13,7 +13,10 @@ returns-then-pool-gt-POOL_LIMIT c =
 
 pub check_jumps-requires : goal.check_jumps-requires
 check_jumps-requires c =
-    record { sorted = sorted c.args.code.now c.args.pool.now c.args.records.now c.args.entries.now c.if-code-gt-CODE_LIMIT.false c.if-pool-gt-POOL_LIMIT.false _ _ (c.fill.ensures.answers, (c.fill.ensures.fills_records, c.fill.ensures.fills_entries)) c.in-Filled.is; all_held = held c.args.code.now c.args.pool.now c.args.records.now c.args.entries.now c.if-code-gt-CODE_LIMIT.false c.if-pool-gt-POOL_LIMIT.false _ _ (c.fill.ensures.answers, (c.fill.ensures.fills_records, c.fill.ensures.fills_entries)) c.in-Filled.is }
+    record {
+      sorted = sorted c.args.code.now c.args.pool.now c.args.records.now c.args.entries.now c.if-code-gt-CODE_LIMIT.false c.if-pool-gt-POOL_LIMIT.false _ _ (c.fill.ensures.answers, (c.fill.ensures.fills_records, c.fill.ensures.fills_entries)) c.in-Filled.is;
+      all_held = held c.args.code.now c.args.pool.now c.args.records.now c.args.entries.now c.if-code-gt-CODE_LIMIT.false c.if-pool-gt-POOL_LIMIT.false _ _ (c.fill.ensures.answers, (c.fill.ensures.fills_records, c.fill.ensures.fills_entries)) c.in-Filled.is;
+    }
 
 pub returns-in-Refused : goal.returns-in-Refused
 returns-in-Refused c =

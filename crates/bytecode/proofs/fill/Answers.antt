@@ -30,7 +30,10 @@ put_line-requires c =
     let own = c.to_usize-own.ensures ∙ c.entries_of.ensures in
     let decoded = sym c.step.ensures ∙ c.in-Decoded.is in
     let within = step_within _ _ _ _ _ decoded in
-    record { at_bound = (omega (arith, c.loop-at.invariant.2.inside), omega (arith, c.loop-at.invariant.2.inside, c.loop-at.invariant.2.stored), entries_inside _ _ _ _ _ decoded); index_bound = (omega (arith, c.loop-at.invariant.2.kept_records, c.if-record_room-count.false), omega (arith, own, c.loop-at.invariant.2.kept_entries, c.loop-at.invariant.2.fits_entries, c.if-entry_room-stored.false)) }
+    record {
+      at_bound = (omega (arith, c.loop-at.invariant.2.inside), omega (arith, c.loop-at.invariant.2.inside, c.loop-at.invariant.2.stored), entries_inside _ _ _ _ _ decoded);
+      index_bound = (omega (arith, c.loop-at.invariant.2.kept_records, c.if-record_room-count.false), omega (arith, own, c.loop-at.invariant.2.kept_entries, c.loop-at.invariant.2.fits_entries, c.if-entry_room-stored.false));
+    }
 
 pub overflow_add-count : goal.overflow_add-count
 overflow_add-count c = omega (arith, c.loop-at.invariant.2.fits)

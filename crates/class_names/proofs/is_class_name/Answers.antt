@@ -6,7 +6,7 @@ use Rattle.class_names.proofs.is_class_name.Goals as goal
 
 pub returns-in-Semicolon : goal.returns-in-Semicolon
 unfolding is_named_by
-returns-in-Semicolon c = ap (is_named_by _) (sym c.in-Semicolon.is ∙ c.name_end.ensures)
+returns-in-Semicolon c = ap (is_named_by c.args.name.now) (sym c.in-Semicolon.is ∙ c.name_end.ensures)
 
 pub returns-then-name-gt0 : goal.returns-then-name-gt0
 returns-then-name-gt0 c = name_some _ _ (sym c.name_end.ensures ∙ c.in-TextEnd.is) c.if-name-gt0.true
@@ -16,4 +16,4 @@ returns-else-name-gt0 c = le-ltb _ _ c.if-name-gt0.false ∙ name_none _ _ (sym 
 
 pub returns-in-Refused : goal.returns-in-Refused
 unfolding is_named_by
-returns-in-Refused c = ap (is_named_by _) (sym c.in-Refused.is ∙ c.name_end.ensures)
+returns-in-Refused c = ap (is_named_by c.args.name.now) (sym c.in-Refused.is ∙ c.name_end.ensures)

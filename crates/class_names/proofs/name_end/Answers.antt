@@ -11,15 +11,15 @@ loop-at-init c = refl
 
 pub returns-then-not-started : goal.returns-then-not-started
 returns-then-not-started c =
-    sym (here (name_from _ _) _ _ c.loop-at-test.true ∙ empty_segment _ _ _ _ (sym c.is_separator.ensures ∙ c.if-is_separator.true) (not-true _ c.if-not-started.true)) ∙ c.loop-at.invariant
+    sym (here (name_from _ _) _ _ c.loop-at-test.true ∙ empty_segment _ _ _ _ (sym c.is_separator.ensures ∙ c.if-is_separator.true) c.if-not-started.true) ∙ c.loop-at.invariant
 
 pub returns-then-b-eq59 : goal.returns-then-b-eq59
 returns-then-b-eq59 c =
-    sym (here (name_from _ _) _ _ c.loop-at-test.true ∙ semicolon _ _ _ _ (sym c.is_separator.ensures ∙ c.if-is_separator.true) (not-false _ c.if-not-started.false) c.if-b-eq59.true) ∙ c.loop-at.invariant
+    sym (here (name_from _ _) _ _ c.loop-at-test.true ∙ semicolon _ _ _ _ (sym c.is_separator.ensures ∙ c.if-is_separator.true) c.if-not-started.false c.if-b-eq59.true) ∙ c.loop-at.invariant
 
 pub loop-at-preserved-then-is_separator : goal.loop-at-preserved-then-is_separator
 loop-at-preserved-then-is_separator c =
-    sym (here (name_from _ _) _ _ c.loop-at-test.true ∙ next_segment _ _ _ _ (sym c.is_separator.ensures ∙ c.if-is_separator.true) (not-false _ c.if-not-started.false) c.if-b-eq59.false) ∙ c.loop-at.invariant
+    sym (here (name_from _ _) _ _ c.loop-at-test.true ∙ next_segment _ _ _ _ (sym c.is_separator.ensures ∙ c.if-is_separator.true) c.if-not-started.false c.if-b-eq59.false) ∙ c.loop-at.invariant
 
 pub returns-then-is_barred : goal.returns-then-is_barred
 returns-then-is_barred c =

@@ -1,25 +1,18 @@
-use Prim.Native.Nat.{◌≤◌, ◌<◌}
 use mathlib.Core.Path.{sym, ap, ◌∙◌}
 use native.Mathlib.Omega.{arith}
-use lib.ListN.{length}
 use Rattle.class_names.proofs.Rules.{ends_in}
 use Rattle.descriptors.specs.Texts.{object_of}
 use Rattle.descriptors.proofs.object_at.Goals as goal
 
 -- the name's `;` lies in the text
-ends : (c : tie.After-known-told) → let r = c.before.before.before in (r.before.before.args.start ≤ c.before.end.given.0.0) × (c.before.end.given.0.0 < length r.before.before.args.text.now)
-ends c =
-    let r = c.before.before.before in
-    ends_in _ _ _ r.before.before.requires.1 (sym r.name_end.ensures ∙ c.before.end.given.1)
-
 pub overflow_sub-end : goal.overflow_sub-end
-overflow_sub-end c = omega (arith, ends c)
+overflow_sub-end c = omega (arith, ends_in _ _ _ c.requires.1 (sym c.name_end.ensures ∙ c.in-Semicolon.is))
 
 pub overflow_cast-end : goal.overflow_cast-end
-overflow_cast-end c = omega (arith, ends c)
+overflow_cast-end c = omega (arith, ends_in _ _ _ c.requires.1 (sym c.name_end.ensures ∙ c.in-Semicolon.is))
 
 pub overflow_add-result : goal.overflow_add-result
-overflow_add-result c = omega (arith, ends c.before)
+overflow_add-result c = omega (arith, ends_in _ _ _ c.requires.1 (sym c.name_end.ensures ∙ c.in-Semicolon.is))
 
 pub returns-in-Semicolon : goal.returns-in-Semicolon
 unfolding object_of

@@ -6,7 +6,7 @@ use Rattle.inspect.proofs.show_identifier.Goals as goal
 
 pub slice_bounds-show_text-end : goal.slice_bounds-show_text-end
 slice_bounds-show_text-end c =
-    omega (arith, c.method_identifier.auto.1.1.0, identifier_fits c.args.name.now c.args.descriptor.now _ c.method_identifier.ensures.answers c.in-Written.is)
+    omega (arith, c.method_identifier.auto.out, identifier_fits c.args.name.now c.args.descriptor.now _ c.method_identifier.ensures.answers c.in-Written.is)
 
 pub slice_bounds-show_text-end-in-Written : goal.slice_bounds-show_text-end-in-Written
 slice_bounds-show_text-end-in-Written c = sym (length-take-le _ _ (slice-reshare-prefix-show-text c.before))

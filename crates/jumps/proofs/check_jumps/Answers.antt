@@ -13,12 +13,12 @@ check_record-checked-requires c =
 pub returns-in_default : goal.returns-in_default
 returns-in_default c =
     loop_stops (jumps_go _) _ 0 _ _ c.loop-i.invariant c.loop-i-test.true
-    (record_read c.args.t1.now c.args.count c.args.entries.now _ c.record_at-stored.ensures c.check_record-checked.ensures) c.in_default.is
+    (record_read c.args.records.now c.args.count c.args.entries.now _ c.record_at-stored.ensures c.check_record-checked.ensures) c.in_default.is
 
 pub loop-i-preserved : goal.loop-i-preserved
 loop-i-preserved c =
     loop_goes_on (jumps_go _) _ 0 _ _ c.loop-i.invariant c.loop-i-test.true
-    (record_read c.args.t1.now c.args.count c.args.entries.now _ c.record_at-stored.ensures c.check_record-checked.ensures) c.in-Good.is
+    (record_read c.args.records.now c.args.count c.args.entries.now _ c.record_at-stored.ensures c.check_record-checked.ensures) c.in-Good.is
 
 pub returns : goal.returns
 returns c = loop_ends (jumps_go _) _ 0 _ _ c.loop-i.invariant c.loop-i-test.false

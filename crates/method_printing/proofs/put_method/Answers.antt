@@ -15,18 +15,18 @@ put_parameters-close-requires c =
 
 pub bounds-out-close : goal.bounds-out-close
 bounds-out-close c =
-    omega (arith, c.put_parameters-close.ensures.ends, simp length-set at c.put_parameters-close.auto.1.1.1.0, c.requires.3, method_length c.args.text.now (parts_in c.args.count c.args.parameters.now) c.args.returned c.requires.1)
+    omega (arith, c.put_parameters-close.ensures.ends, simp length-set at c.put_parameters-close.auto.out, c.requires.3, method_length c.args.text.now (parts_in c.args.count c.args.parameters.now) c.args.returned c.requires.1)
 
 pub overflow_add-close : goal.overflow_add-close
 overflow_add-close c =
-    omega (arith, c.put_parameters-close.ensures.ends, simp length-set at c.put_parameters-close.auto.1.1.1.0, c.requires.3, method_length c.args.text.now (parts_in c.args.count c.args.parameters.now) c.args.returned c.requires.1)
+    omega (arith, c.put_parameters-close.ensures.ends, simp length-set at c.put_parameters-close.auto.out, c.requires.3, method_length c.args.text.now (parts_in c.args.count c.args.parameters.now) c.args.returned c.requires.1)
 
 pub put_part-requires : goal.put_part-requires
 put_part-requires c =
-    (c.requires.1, simp length-set (omega (arith, c.put_parameters-close.ensures.ends, simp length-set at c.put_parameters-close.auto.1.1.1.0, c.requires.3, method_length c.args.text.now (parts_in c.args.count c.args.parameters.now) c.args.returned c.requires.1)))
+    (c.requires.1, simp length-set (omega (arith, c.put_parameters-close.ensures.ends, simp length-set at c.put_parameters-close.auto.out, c.requires.3, method_length c.args.text.now (parts_in c.args.count c.args.parameters.now) c.args.returned c.requires.1)))
 
 pub shape_of-out : goal.shape_of-out
-shape_of-out c = (simp length-set at c.put_part.auto.1.1.0) ∙ simp length-set at c.put_parameters-close.auto.1.1.1.0
+shape_of-out c = (simp length-set at c.put_part.auto.out) ∙ simp length-set at c.put_parameters-close.auto.out
 
 pub returns : goal.returns
 returns c =

@@ -31,9 +31,8 @@ pub loop-number-smaller : goal.loop-number-smaller
 loop-number-smaller c = parameter_falls _ _ _ _ c.loop-number.invariant.1.inside (sym c.next_part.ensures ∙ c.in-Parameter.is)
 
 pub loop-number-preserved : goal.loop-number-preserved
-loop-number-preserved c =
-    (
-      refl,
-      rw c.put_part.ensures
-          (fill_next _ _ _ _ _ c.loop-number.invariant.1 _ _ (sym c.next_part.ensures ∙ c.in-Parameter.is) c.if-count-room.false),
-    )
+loop-number-preserved c = (
+  refl,
+  rw c.put_part.ensures
+      (fill_next _ _ _ _ _ c.loop-number.invariant.1 _ _ (sym c.next_part.ensures ∙ c.in-Parameter.is) c.if-count-room.false),
+)

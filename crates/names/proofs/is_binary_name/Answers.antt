@@ -16,19 +16,19 @@ unfolding is_binary_name
 loop-i-init c = (search rules, rw (le-leb _ _ c.if-name-gt-TEXT_LIMIT.false) (none_begun _))
 
 pub returns-then-not-started : goal.returns-then-not-started
-returns-then-not-started c = sym (empty_at _ _ c.loop-i-test.true (not-true _ c.if-not-started.true) c.if-b-eq47.true) ∙ c.loop-i.invariant.1
+returns-then-not-started c = sym (empty_at _ _ c.loop-i-test.true c.if-not-started.true c.if-b-eq47.true) ∙ c.loop-i.invariant.1
 
 pub loop-i-preserved-then-b-eq47 : goal.loop-i-preserved-then-b-eq47
 loop-i-preserved-then-b-eq47 c =
-    (search rules, sym (closes_at _ _ c.loop-i-test.true (not-false _ c.if-not-started.false) c.if-b-eq47.true) ∙ c.loop-i.invariant.1)
+    (search rules, sym (closes_at _ _ c.loop-i-test.true c.if-not-started.false c.if-b-eq47.true) ∙ c.loop-i.invariant.1)
 
 pub returns-then-not-is_name_byte : goal.returns-then-not-is_name_byte
 returns-then-not-is_name_byte c =
-    sym (byte_at _ _ c.loop-i-test.true _ c.if-b-eq47.false ∙ and_stops c.is_name_byte.ensures _ (not-true _ c.if-not-is_name_byte.true)) ∙ c.loop-i.invariant.1
+    sym (byte_at _ _ c.loop-i-test.true _ c.if-b-eq47.false ∙ and_stops c.is_name_byte.ensures _ c.if-not-is_name_byte.true) ∙ c.loop-i.invariant.1
 
 pub loop-i-preserved : goal.loop-i-preserved
 loop-i-preserved c =
-    (search rules, sym (byte_at _ _ c.loop-i-test.true _ c.if-b-eq47.false ∙ and_goes_on c.is_name_byte.ensures _ (not-false _ c.if-not-is_name_byte.false)) ∙ c.loop-i.invariant.1)
+    (search rules, sym (byte_at _ _ c.loop-i-test.true _ c.if-b-eq47.false ∙ and_goes_on c.is_name_byte.ensures _ c.if-not-is_name_byte.false) ∙ c.loop-i.invariant.1)
 
 pub returns : goal.returns
 returns c = sym (done (λ s. names_left c.loop-i.started (segments s)) _ _ c.loop-i-test.false ∙ names_end _) ∙ c.loop-i.invariant.1

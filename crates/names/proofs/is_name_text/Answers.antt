@@ -12,11 +12,11 @@ loop-i-init c = (search rules, refl)
 
 pub returns-then-not-is_name_byte : goal.returns-then-not-is_name_byte
 returns-then-not-is_name_byte c =
-    sym (bad_text _ _ (sym c.loop-i.invariant.1 ∙ every_at _ _ _ c.loop-i-test.true ∙ and_stops c.is_name_byte.ensures _ (not-true _ c.if-not-is_name_byte.true)))
+    sym (bad_text _ _ (sym c.loop-i.invariant.1 ∙ every_at _ _ _ c.loop-i-test.true ∙ and_stops c.is_name_byte.ensures _ c.if-not-is_name_byte.true))
 
 pub loop-i-preserved : goal.loop-i-preserved
 loop-i-preserved c =
-    (search rules, sym (every_at _ _ _ c.loop-i-test.true ∙ and_goes_on c.is_name_byte.ensures _ (not-false _ c.if-not-is_name_byte.false)) ∙ c.loop-i.invariant.1)
+    (search rules, sym (every_at _ _ _ c.loop-i-test.true ∙ and_goes_on c.is_name_byte.ensures _ c.if-not-is_name_byte.false) ∙ c.loop-i.invariant.1)
 
 pub returns : goal.returns
 unfolding every

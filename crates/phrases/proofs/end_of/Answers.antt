@@ -10,7 +10,10 @@ loop-i-init c = (search rules, refl)
 
 pub returns-then-texts-i-eq-BAR : goal.returns-then-texts-i-eq-BAR
 returns-then-texts-i-eq-BAR c =
-    record { within = c.loop-i.invariant.0; ends = omega (arith, c.loop-i.invariant.1, ap length (ends_at_bar c.args.texts.now c.loop-i.i c.loop-i-test.true c.if-texts-i-eq-BAR.true)) }
+    record {
+      within = c.loop-i.invariant.0;
+      ends = omega (arith, c.loop-i.invariant.1, ap length (ends_at_bar c.args.texts.now c.loop-i.i c.loop-i-test.true c.if-texts-i-eq-BAR.true));
+    }
 
 pub loop-i-preserved : goal.loop-i-preserved
 loop-i-preserved c =
@@ -18,4 +21,7 @@ loop-i-preserved c =
 
 pub returns : goal.returns
 returns c =
-    record { within = c.loop-i.invariant.0; ends = omega (arith, c.loop-i.invariant.1, ap length (ends_at_end c.args.texts.now c.loop-i.i c.loop-i-test.false)) }
+    record {
+      within = c.loop-i.invariant.0;
+      ends = omega (arith, c.loop-i.invariant.1, ap length (ends_at_end c.args.texts.now c.loop-i.i c.loop-i-test.false));
+    }

@@ -5,4 +5,8 @@ use Rattle.phrases.proofs.put_blanks.Goals as goal
 
 pub returns : goal.returns
 returns c =
-    record { ends = rw (length-replicate); writes = c.put_run.ensures; short = omega (arith, length-replicate {A = ℕ} c.args.count 32) }
+    record {
+      ends = rw (length-replicate);
+      writes = c.put_run.ensures;
+      short = omega (arith, length-replicate {A = ℕ} c.args.count 32);
+    }

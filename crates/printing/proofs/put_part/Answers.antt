@@ -4,11 +4,6 @@ use lib.ListN.{length-set}
 use Rattle.printing.proofs.Laws.{some_length, object_length, name_copied, return_part, part_byte, part_range, letter_written, object_written}
 use Rattle.printing.proofs.put_part.Goals as goal
 
-part-put-end : tie.Need-slice-bounds-put-end
-part-put-end c =
-    let a = c.before.before.before.before.before.before.before.before.before.before.before.before.before in
-    part_range _ a.args.part ((return_part a.args.text.now a.args.part).0 a.requires.0) c.before.before.before.if1.true
-
 pub put_run-requires : goal.put_run-requires
 put_run-requires c = omega (arith, some_length c.args.part, c.requires.1)
 
@@ -19,7 +14,7 @@ pub bounds-out-letter_at : goal.bounds-out-letter_at
 bounds-out-letter_at c = omega (arith, some_length c.args.part, c.requires.1, c.put_run.auto)
 
 pub slice_bounds-put-end : goal.slice_bounds-put-end
-slice_bounds-put-end c = (part-put-end) c
+slice_bounds-put-end c = part_range _ c.args.part ((return_part c.args.text.now c.args.part).0 c.requires.0) c.if-part.true
 
 pub put-requires : goal.put-requires
 put-requires c =
@@ -27,10 +22,10 @@ put-requires c =
     simp (length-set, name_copied c.args.text.now c.args.part r) (omega (arith, object_length c.args.part c.if-part.true, c.requires.1, c.put_run.auto))
 
 pub bounds-out-letter_at-then-part : goal.bounds-out-letter_at-then-part
-bounds-out-letter_at-then-part c = omega (arith, object_length c.args.part c.if-part.true, c.requires.1, c.put_run.auto, simp length-set at c.put.auto.0)
+bounds-out-letter_at-then-part c = omega (arith, object_length c.args.part c.if-part.true, c.requires.1, c.put_run.auto, simp length-set at c.put.auto.out)
 
 pub shape_of-out-then-part : goal.shape_of-out-then-part
-shape_of-out-then-part c = simp length-set ((simp length-set at c.put.auto.0) ∙ c.put_run.auto.0)
+shape_of-out-then-part c = simp length-set ((simp length-set at c.put.auto.out) ∙ c.put_run.auto.out)
 
 pub returns-then-part : goal.returns-then-part
 returns-then-part c =

@@ -4,4 +4,7 @@ use Rattle.station.proofs.nk_identifier.Goals as goal
 
 pub returns : goal.returns
 returns c =
-    record { answers = c.written.ensures ∙ ap output_answer c.method_identifier.ensures.answers; writes = c.method_identifier.ensures.writes }
+    record {
+      answers = c.written.ensures ∙ ap output_answer c.method_identifier.ensures.answers;
+      writes = c.method_identifier.ensures.writes;
+    }

@@ -8,4 +8,7 @@ method_parts-requires c = subst HasFew (sym c.method_prefix.ensures.answers) (fe
 
 pub returns : goal.returns
 returns c =
-    record { answers = c.method_parts.ensures ∙ ap method_parts c.method_prefix.ensures.answers; stores = c.method_prefix.ensures.stores }
+    record {
+      answers = c.method_parts.ensures ∙ ap method_parts c.method_prefix.ensures.answers;
+      stores = c.method_prefix.ensures.stores;
+    }

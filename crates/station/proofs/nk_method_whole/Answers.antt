@@ -9,4 +9,7 @@ method_parts-requires c = subst HasFew (sym c.method_whole.ensures.answers) (few
 
 pub returns : goal.returns
 returns c =
-    record { answers = c.method_parts.ensures ∙ ap method_parts c.method_whole.ensures.answers; stores = c.method_whole.ensures.stores }
+    record {
+      answers = c.method_parts.ensures ∙ ap method_parts c.method_whole.ensures.answers;
+      stores = c.method_whole.ensures.stores;
+    }

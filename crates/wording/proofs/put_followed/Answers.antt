@@ -7,9 +7,7 @@ use Rattle.wording.proofs.put_followed.Goals as goal
 
 pub returns-in-Nothing : goal.returns-in-Nothing
 unfolding followed
-returns-in-Nothing c =
-    let e1 = c in
-    puts_as (ap (λ (f : Follow). followed f c.args.«record») (sym e1.enum_told.given.1)) (omega arith) (puts_nothing _ _)
+returns-in-Nothing c = puts_as (ap (λ (f : Follow). followed f c.args.«record») (sym c.in-Nothing.is)) (omega arith) (puts_nothing _ _)
 
 pub returns-in-Count : goal.returns-in-Count
 unfolding followed
@@ -22,6 +20,4 @@ returns-in-CountAndZero c =
 
 pub returns-in-TwoZeros : goal.returns-in-TwoZeros
 unfolding followed
-returns-in-TwoZeros c =
-    let e1 = c in
-    puts_as (ap (λ (f : Follow). followed f c.args.«record») (sym e1.enum-told4.given.1)) (omega arith) (puts_nothing _ _)
+returns-in-TwoZeros c = puts_as (ap (λ (f : Follow). followed f c.args.«record») (sym c.in-TwoZeros.is)) (omega arith) (puts_nothing _ _)

@@ -8,9 +8,7 @@ use Rattle.wording.proofs.put_operands.Goals as goal
 
 pub returns-in-Plain : goal.returns-in-Plain
 unfolding operands_of
-returns-in-Plain c =
-    let e1 = c in
-    puts_as (ap (λ (f : Format). operands_of f c.args.pool.now c.args.«record») (sym e1.enum_told.given.1)) (omega arith) (puts_nothing _ _)
+returns-in-Plain c = puts_as (ap (λ (f : Format). operands_of f c.args.pool.now c.args.«record») (sym c.in-Plain.is)) (omega arith) (puts_nothing _ _)
 
 pub returns-in-SignedByte : goal.returns-in-SignedByte
 unfolding operands_of
@@ -30,8 +28,7 @@ returns-in-Local c =
 pub returns-in-ImpliedLocal : goal.returns-in-ImpliedLocal
 unfolding operands_of
 returns-in-ImpliedLocal c =
-    let e1 = c in
-    puts_as (ap (λ (f : Format). operands_of f c.args.pool.now c.args.«record») (sym e1.enum-told5.given.1)) (omega arith) (puts_nothing _ _)
+    puts_as (ap (λ (f : Format). operands_of f c.args.pool.now c.args.«record») (sym c.in-ImpliedLocal.is)) (omega arith) (puts_nothing _ _)
 
 pub returns-in-Increment : goal.returns-in-Increment
 unfolding operands_of
@@ -81,5 +78,4 @@ returns-in-LookupSwitch c =
 pub returns-in-NoInstruction : goal.returns-in-NoInstruction
 unfolding operands_of
 returns-in-NoInstruction c =
-    let e1 = c in
-    puts_as (ap (λ (f : Format). operands_of f c.args.pool.now c.args.«record») (sym e1.enum-told14.given.1)) (omega arith) (puts_nothing _ _)
+    puts_as (ap (λ (f : Format). operands_of f c.args.pool.now c.args.«record») (sym c.in-NoInstruction.is)) (omega arith) (puts_nothing _ _)
