@@ -1,5 +1,4 @@
-// The C library of the product: each entry with its answer as one struct of numbers. A slice crosses as a pointer and a
-// count of elements.
+// Each entry of the product with its answer as one struct of numbers. `station_c` exports these functions for C.
 #![tactic(auto)]
 
 ghost use Rattle.std.specs.Prelude.{◌≡◌, length};
@@ -134,8 +133,7 @@ fn method_parts(answer: Method) -> Parts
 }
 
 // A code decoded: `first` is the number of instructions, `next` that of switch entries.
-#[unsafe(no_mangle)]
-pub extern "C" fn nk_decode(
+pub fn nk_decode(
     code: &[u8],
     pool: &[u8],
     records: &mut [u32],
@@ -152,8 +150,7 @@ pub extern "C" fn nk_decode(
 }
 
 // The record of an offset among the first so many: `next` is 1 where there is one, and `first` is then its index.
-#[unsafe(no_mangle)]
-pub extern "C" fn nk_lookup(records: &[u32], count: u64, offset: u64) -> Answer
+pub fn nk_lookup(records: &[u32], count: u64, offset: u64) -> Answer
     ensures { result ≡ lookup_answer (lookup_of records.now count (record { 0 = offset })) }
 {
     match lookup::find(records, count as usize, CodeOffset(offset as usize)) {
@@ -163,8 +160,7 @@ pub extern "C" fn nk_lookup(records: &[u32], count: u64, offset: u64) -> Answer
     }
 }
 
-#[unsafe(no_mangle)]
-pub extern "C" fn nk_class_name(text: &[u8]) -> Answer
+pub fn nk_class_name(text: &[u8]) -> Answer
     ensures { result ≡ name_answer (class_name text.now) }
 {
     match class_names::class_name(text) {
@@ -174,8 +170,7 @@ pub extern "C" fn nk_class_name(text: &[u8]) -> Answer
 }
 
 // The functions that write have the length as `first`.
-#[unsafe(no_mangle)]
-pub extern "C" fn nk_print_field(
+pub fn nk_print_field(
     text: &[u8],
     dimensions: u32,
     letter: u32,
@@ -195,8 +190,7 @@ pub extern "C" fn nk_print_field(
     written(printing::print_field(text, part, out))
 }
 
-#[unsafe(no_mangle)]
-pub extern "C" fn nk_print_return(
+pub fn nk_print_return(
     text: &[u8],
     dimensions: u32,
     letter: u32,
@@ -216,8 +210,7 @@ pub extern "C" fn nk_print_return(
     written(printing::print_return(text, part, out))
 }
 
-#[unsafe(no_mangle)]
-pub extern "C" fn nk_print_method(
+pub fn nk_print_method(
     text: &[u8],
     parameters: &[u32],
     count: u64,
@@ -239,45 +232,39 @@ pub extern "C" fn nk_print_method(
     written(method_printing::print_method(text, parameters, count as usize, returned, out))
 }
 
-#[unsafe(no_mangle)]
-pub extern "C" fn nk_identifier(name: &[u8], descriptor: &[u8], out: &mut [u8]) -> Answer
+pub fn nk_identifier(name: &[u8], descriptor: &[u8], out: &mut [u8]) -> Answer
     ensures answers { result ≡ output_answer (identifying name.now descriptor.now (length out.old)) }
     ensures writes { out.new ≡ identifier_output name.now descriptor.now out.old }
 {
     written(identifier::method_identifier(name, descriptor, out))
 }
 
-#[unsafe(no_mangle)]
-pub extern "C" fn nk_field_prefix(text: &[u8]) -> Parts
+pub fn nk_field_prefix(text: &[u8]) -> Parts
     ensures { result ≡ field_parts (field_prefix text.now) }
 {
     field_parts(descriptors::field_prefix(text))
 }
 
-#[unsafe(no_mangle)]
-pub extern "C" fn nk_field_whole(text: &[u8]) -> Parts
+pub fn nk_field_whole(text: &[u8]) -> Parts
     ensures { result ≡ field_parts (field_text text.now) }
 {
     field_parts(descriptors::field_whole(text))
 }
 
-#[unsafe(no_mangle)]
-pub extern "C" fn nk_return_prefix(text: &[u8]) -> Parts
+pub fn nk_return_prefix(text: &[u8]) -> Parts
     ensures { result ≡ field_parts (return_prefix text.now) }
 {
     field_parts(descriptors::return_prefix(text))
 }
 
-#[unsafe(no_mangle)]
-pub extern "C" fn nk_return_whole(text: &[u8]) -> Parts
+pub fn nk_return_whole(text: &[u8]) -> Parts
     ensures { result ≡ field_parts (return_text text.now) }
 {
     field_parts(descriptors::return_whole(text))
 }
 
 // A letter of 0 says that the text is not an array.
-#[unsafe(no_mangle)]
-pub extern "C" fn nk_array(text: &[u8]) -> Parts
+pub fn nk_array(text: &[u8]) -> Parts
     ensures { result ≡ array_parts (length text.now) (array_text text.now) }
 {
     match descriptors::array_whole(text) {
@@ -287,73 +274,63 @@ pub extern "C" fn nk_array(text: &[u8]) -> Parts
     }
 }
 
-#[unsafe(no_mangle)]
-pub extern "C" fn nk_method_prefix(text: &[u8], parameters: &mut [u32]) -> Parts
+pub fn nk_method_prefix(text: &[u8], parameters: &mut [u32]) -> Parts
     ensures answers { result ≡ method_parts (method_prefix (room_of parameters.old) text.now) }
     ensures stores { parameters.new ≡ prefix_store parameters.old text.now }
 {
     method_parts(methods::method_prefix(text, parameters))
 }
 
-#[unsafe(no_mangle)]
-pub extern "C" fn nk_method_whole(text: &[u8], parameters: &mut [u32]) -> Parts
+pub fn nk_method_whole(text: &[u8], parameters: &mut [u32]) -> Parts
     ensures answers { result ≡ method_parts (method_text (room_of parameters.old) text.now) }
     ensures stores { parameters.new ≡ text_store parameters.old text.now }
 {
     method_parts(methods::method_whole(text, parameters))
 }
 
-#[unsafe(no_mangle)]
-pub extern "C" fn nk_is_binary_name(text: &[u8]) -> bool
+pub fn nk_is_binary_name(text: &[u8]) -> bool
     ensures { result ≡ is_binary_name text.now }
 {
     names::is_binary_name(text)
 }
 
-#[unsafe(no_mangle)]
-pub extern "C" fn nk_is_unqualified_name(text: &[u8]) -> bool
+pub fn nk_is_unqualified_name(text: &[u8]) -> bool
     ensures { result ≡ is_unqualified_name text.now }
 {
     names::is_unqualified_name(text)
 }
 
-#[unsafe(no_mangle)]
-pub extern "C" fn nk_is_method_name(text: &[u8], init: bool, clinit: bool) -> bool
+pub fn nk_is_method_name(text: &[u8], init: bool, clinit: bool) -> bool
     ensures { result ≡ is_method_name init clinit text.now }
 {
     names::is_unqualified_method_name(text, init, clinit)
 }
 
-#[unsafe(no_mangle)]
-pub extern "C" fn nk_is_module_name(text: &[u8]) -> bool
+pub fn nk_is_module_name(text: &[u8]) -> bool
     ensures { result ≡ is_module_name text.now }
 {
     names::is_module_name(text)
 }
 
-#[unsafe(no_mangle)]
-pub extern "C" fn nk_is_field_descriptor(text: &[u8]) -> bool
+pub fn nk_is_field_descriptor(text: &[u8]) -> bool
     ensures { result ≡ is_field_text text.now }
 {
     descriptors::is_field_descriptor(text)
 }
 
-#[unsafe(no_mangle)]
-pub extern "C" fn nk_is_array_descriptor(text: &[u8]) -> bool
+pub fn nk_is_array_descriptor(text: &[u8]) -> bool
     ensures { result ≡ is_array_text text.now }
 {
     descriptors::is_array_descriptor(text)
 }
 
-#[unsafe(no_mangle)]
-pub extern "C" fn nk_is_return_descriptor(text: &[u8]) -> bool
+pub fn nk_is_return_descriptor(text: &[u8]) -> bool
     ensures { result ≡ is_return_text text.now }
 {
     descriptors::is_return_descriptor(text)
 }
 
-#[unsafe(no_mangle)]
-pub extern "C" fn nk_is_method_descriptor(text: &[u8]) -> bool
+pub fn nk_is_method_descriptor(text: &[u8]) -> bool
     ensures { result ≡ is_method_text text.now }
 {
     methods::is_method_descriptor(text)
