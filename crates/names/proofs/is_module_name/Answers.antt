@@ -1,6 +1,6 @@
 use mathlib.Core.Path.{sym, ◌∙◌}
 use borrow.Author.Rules.{rules}
-use borrow.Author.Tests.{lt-leb, le-leb, not-true, not-false}
+use borrow.Author.Tests.{lt-leb, le-leb}
 use Rattle.laws.proofs.Bools.{and_stops, and_goes_on}
 use Rattle.laws.proofs.Lists.{done}
 use Rattle.names.specs.Names.{is_module_name, module_rest}

@@ -1,6 +1,5 @@
 use mathlib.Core.Path.{refl, sym, ◌∙◌}
 use borrow.Author.Rules.{rules}
-use borrow.Author.Tests.{not-true, not-false}
 use Rattle.laws.specs.Bytes.{every}
 use Rattle.laws.proofs.Bools.{and_stops, and_goes_on}
 use Rattle.laws.proofs.Lists.{done, every_at}
