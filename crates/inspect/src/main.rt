@@ -9,10 +9,10 @@ ghost use Rattle.bundle.specs.Theorems.{SectionsInside};
 
 use bundle::{Next, Section, Sections};
 use bytecode::Decoded;
-use libc::{STDIN_FILENO, STDOUT_FILENO};
 use listing::LINE_ROOM;
 use output::Output;
 use records::{Record, RecordIndex, SwitchEntry, to_usize};
+use std::io::Read;
 
 // The most bytes of a bundle that are shown.
 const BUNDLE_ROOM: usize = 1048576;
@@ -54,28 +54,29 @@ fn identifier_buffer() -> [u8; IDENTIFIER_ROOM]
     [0; IDENTIFIER_ROOM]
 }
 
-fn print(bytes: &[u8]) {
-    io::write_all(STDOUT_FILENO, bytes);
+// What cannot be written is lost, and the program goes on.
+fn print(rt: &impl Print, bytes: &[u8]) {
+    let _ = rt.write_all(bytes);
 }
 
-fn print_number(label: &[u8], number: usize) {
-    print(label);
-    io::print_decimal(STDOUT_FILENO, number as u64);
+fn print_number(rt: &impl Print, label: &[u8], number: usize) {
+    print(rt, label);
+    let _ = print!(rt; "{number}");
 }
 
 // What was written at the front of an output.
-fn print_written(out: &[u8], answer: Output) {
+fn print_written(rt: &impl Print, out: &[u8], answer: Output) {
     if let Output::Written(length) = answer {
         if length <= out.len() {
-            print(&out[..length]);
+            print(rt, &out[..length]);
         }
     }
 }
 
-fn show_chunk(text: &[u8]) {
+fn show_chunk(rt: &impl Print, text: &[u8]) {
     let mut out = [0u8; CHUNK_ROOM];
     let answer = listing::shown(text, &mut out);
-    print_written(&out, answer);
+    print_written(rt, &out, answer);
 }
 
 fn chunk_end(start: usize, length: usize) -> usize
@@ -90,48 +91,49 @@ fn chunk_end(start: usize, length: usize) -> usize
 }
 
 // A text of any length and of any bytes, none of which may steer the terminal.
-fn show_text(text: &[u8]) {
+fn show_text(rt: &impl Print, text: &[u8]) {
     let mut start = 0;
     while start < text.len() {
         let end = chunk_end(start, text.len());
-        show_chunk(&text[start..end]);
+        show_chunk(rt, &text[start..end]);
         start = end;
     }
 }
 
-fn show_refusal(number: u32, place: usize, second: u32) {
+fn show_refusal(rt: &impl Print, number: u32, place: usize, second: u32) {
     let mut out = [0u8; LINE_ROOM];
     let answer = listing::refused_line(number, place, second, &mut out);
-    print_written(&out, answer);
+    print_written(rt, &out, answer);
 }
 
-fn show_acceptance(instructions: usize, entries: usize) {
+fn show_acceptance(rt: &impl Print, instructions: usize, entries: usize) {
     let mut out = [0u8; LINE_ROOM];
     let answer = listing::accepted_line(instructions, entries, &mut out);
-    print_written(&out, answer);
+    print_written(rt, &out, answer);
 }
 
-fn show_sum(methods: usize, accepted: usize)
+fn show_sum(rt: &impl Print, methods: usize, accepted: usize)
     requires { accepted ≤ methods }
 {
     let mut out = [0u8; LINE_ROOM];
     let answer = listing::sum_line(methods, accepted, methods - accepted, &mut out);
-    print_written(&out, answer);
+    print_written(rt, &out, answer);
 }
 
-fn show_entry(offset: u32, entry: SwitchEntry) {
+fn show_entry(rt: &impl Print, offset: u32, entry: SwitchEntry) {
     let mut out = [0u8; LINE_ROOM];
     let answer = listing::entry_line(offset, entry, &mut out);
-    print_written(&out, answer);
+    print_written(rt, &out, answer);
 }
 
 // The entries of the switch at an offset, so many from the first on.
-fn show_entries(offset: u32, entries: &[u32], first: usize, number: u32)
+fn show_entries(rt: &impl Print, offset: u32, entries: &[u32], first: usize, number: u32)
     requires { first + number ≤ entry_room entries.now }
 {
     let mut i = 0;
     while i < number {
         show_entry(
+            rt,
             offset,
             records::entry_at(entries, RecordIndex(first + to_usize(i))),
         );
@@ -139,13 +141,14 @@ fn show_entries(offset: u32, entries: &[u32], first: usize, number: u32)
     }
 }
 
-fn show_instruction(code: &[u8], pool: &[u8], entries: &[u32], stored: Record)
+fn show_instruction(rt: &impl Print, code: &[u8], pool: &[u8], entries: &[u32], stored: Record)
     requires { Held entries.now stored }
 {
     let mut out = [0u8; LINE_ROOM];
     let answer = listing::instruction_line(code, pool, stored, &mut out);
-    print_written(&out, answer);
+    print_written(rt, &out, answer);
     show_entries(
+        rt,
         stored.offset,
         entries,
         to_usize(stored.d),
@@ -153,12 +156,20 @@ fn show_instruction(code: &[u8], pool: &[u8], entries: &[u32], stored: Record)
     );
 }
 
-fn show_instructions(code: &[u8], pool: &[u8], records: &[u32], count: usize, entries: &[u32])
+fn show_instructions(
+    rt: &impl Print,
+    code: &[u8],
+    pool: &[u8],
+    records: &[u32],
+    count: usize,
+    entries: &[u32],
+)
     requires { Sorted records.now count × AllHeld records.now count entries.now }
 {
     let mut i = 0;
     while i < count {
         show_instruction(
+            rt,
             code,
             pool,
             entries,
@@ -169,15 +180,21 @@ fn show_instructions(code: &[u8], pool: &[u8], records: &[u32], count: usize, en
 }
 
 // Whether a code is accepted, with its listing if it is.
-fn show_code(code: &[u8], pool: &[u8], records: &mut [u32], entries: &mut [u32]) -> bool {
+fn show_code(
+    rt: &impl Print,
+    code: &[u8],
+    pool: &[u8],
+    records: &mut [u32],
+    entries: &mut [u32],
+) -> bool {
     match bytecode::decode(code, pool, records, entries) {
         Decoded::Accepted(count, stored) => {
-            show_acceptance(count, stored);
-            show_instructions(code, pool, &*records, count, &*entries);
+            show_acceptance(rt, count, stored);
+            show_instructions(rt, code, pool, &*records, count, &*entries);
             true
         }
         Decoded::Refused(number, place, second) => {
-            show_refusal(number, place.0, second);
+            show_refusal(rt, number, place.0, second);
             false
         }
     }
@@ -185,19 +202,25 @@ fn show_code(code: &[u8], pool: &[u8], records: &mut [u32], entries: &mut [u32])
 
 // Whether the method at an offset has an identifier: it heads the line on the code. A method without one is named by its
 // offset in the bundle, after a line that says why.
-fn show_identifier(at: usize, name: &[u8], descriptor: &[u8], out: &mut [u8]) -> bool {
+fn show_identifier(
+    rt: &impl Print,
+    at: usize,
+    name: &[u8],
+    descriptor: &[u8],
+    out: &mut [u8],
+) -> bool {
     match identifier::method_identifier(name, descriptor, out) {
         Output::Written(length) => {
-            show_text(&out[..length]);
-            print(b": ");
+            show_text(rt, &out[..length]);
+            print(rt, b": ");
             true
         }
         Output::Refused(number, place) => {
-            print_number(b"method at byte ", at);
-            print(b", identifier: ");
-            show_refusal(number, place, 0);
-            print_number(b"method at byte ", at);
-            print(b": ");
+            print_number(rt, b"method at byte ", at);
+            print(rt, b", identifier: ");
+            show_refusal(rt, number, place, 0);
+            print_number(rt, b"method at byte ", at);
+            print(rt, b": ");
             false
         }
     }
@@ -213,6 +236,7 @@ fn bytes_of(bundle: &[u8], section: Section) -> &[u8]
 
 // Whether a method is accepted: its identifier and its code.
 fn show_method(
+    rt: &impl Print,
     bundle: &[u8],
     at: usize,
     sections: Sections,
@@ -226,9 +250,9 @@ fn show_method(
     let descriptor = bytes_of(bundle, sections.descriptor);
     let pool = bytes_of(bundle, sections.pool);
     let code = bytes_of(bundle, sections.code);
-    let identified = show_identifier(at, name, descriptor, identifier);
-    let decoded = show_code(code, pool, records, entries);
-    print(b"\n");
+    let identified = show_identifier(rt, at, name, descriptor, identifier);
+    let decoded = show_code(rt, code, pool, records, entries);
+    print(rt, b"\n");
     identified & decoded
 }
 
@@ -247,6 +271,7 @@ struct Shown {
 }
 
 fn show_methods(
+    rt: &impl Print,
     bundle: &[u8],
     records: &mut [u32],
     entries: &mut [u32],
@@ -265,40 +290,58 @@ fn show_methods(
                 accepted: accepted,
             };
         };
-        accepted += one_if(show_method(bundle, at, sections, records, entries, identifier));
+        accepted += one_if(show_method(rt, bundle, at, sections, records, entries, identifier));
         methods += 1;
         at = sections.code.end;
     }
 }
 
 // What keeps the bytes from an offset on from being shown, if there are any.
-fn show_rest(bundle: &[u8], at: usize, more: bool) {
+fn show_rest(rt: &impl Print, bundle: &[u8], at: usize, more: bool) {
     if more {
-        print_number(b"byte ", at);
-        print_number(b": the bundle is larger than ", BUNDLE_ROOM);
-        print(b" bytes; what follows is not shown\n");
+        print_number(rt, b"byte ", at);
+        print_number(rt, b": the bundle is larger than ", BUNDLE_ROOM);
+        print(rt, b" bytes; what follows is not shown\n");
         return;
     }
     if let Next::CutShort(place) = bundle::next_method(bundle, at) {
-        print_number(b"byte ", place);
-        print(b": the bundle is cut short here\n");
+        print_number(rt, b"byte ", place);
+        print(rt, b": the bundle is cut short here\n");
     }
 }
 
-// Whether there is more to read.
-fn is_more() -> bool {
-    let mut next = [0u8; 1];
-    0 < io::read_full(STDIN_FILENO, &mut next)
+// Reads until the buffer is full, the input ends or a read fails: how many bytes it put at the front.
+fn read_full<R: Read>(input: &mut R, buffer: &mut [u8]) -> usize
+    ensures { result ≤ length buffer.new }
+{
+    let mut done = 0;
+    while done < buffer.len() {
+        let Ok(count) = input.read(&mut buffer[done..]) else {
+            return done;
+        };
+        if count == 0 {
+            return done;
+        }
+        done += count;
+    }
+    done
 }
 
-fn main() {
+// Whether there is more to read.
+fn is_more<R: Read>(input: &mut R) -> bool {
+    let mut next = [0u8; 1];
+    0 < read_full(input, &mut next)
+}
+
+fn main(rt: HostRuntime) {
     let mut bundle = bundle_buffer();
     let mut records = record_store();
     let mut entries = entry_store();
     let mut identifier = identifier_buffer();
-    let size = io::read_full(STDIN_FILENO, &mut bundle);
+    let mut input = rt.reader();
+    let size = read_full(&mut input, &mut bundle);
     let read = &bundle[..size];
-    let shown = show_methods(read, &mut records, &mut entries, &mut identifier);
-    show_rest(read, shown.at, is_more());
-    show_sum(shown.methods, shown.accepted);
+    let shown = show_methods(&rt, read, &mut records, &mut entries, &mut identifier);
+    show_rest(&rt, read, shown.at, is_more(&mut input));
+    show_sum(&rt, shown.methods, shown.accepted);
 }

@@ -13,7 +13,6 @@ use lib.Seq.{sets, length-sets}
 use Rattle.laws.specs.Bytes.{byte, ascii}
 use Rattle.store.proofs.Records.{then_record}
 use Rattle.descriptors.specs.declared.FieldDescriptor.{FieldDescriptor}
-use Rattle.descriptors.specs.Texts.{void}
 use Rattle.descriptors.specs.Grammar.{ReturnDescriptor, parts_at}
 use Rattle.descriptors.proofs.Grammar.{begins_within, begins_all, some_text}
 use Rattle.methods.specs.declared.Method.{Method}

@@ -1,6 +1,4 @@
-use mathlib.Core.Bool.{false}
 use mathlib.Core.Path.{refl, sym, ◌∙◌}
-use borrow.Author.Tests.{not-true, not-false}
 use Rattle.laws.proofs.Lists.{here, done}
 use Rattle.class_names.specs.Names.{name_from}
 use Rattle.class_names.proofs.Laws.{empty_segment, semicolon, next_segment, barred_byte, name_byte_lem}

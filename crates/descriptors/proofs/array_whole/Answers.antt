@@ -1,5 +1,4 @@
 use mathlib.Core.Path.{sym, ap, ◌∙◌}
-use borrow.Author.Tests.{not-true, not-false}
 use Rattle.descriptors.specs.Texts.{array_of}
 use Rattle.descriptors.proofs.Laws.{array_over, array_none, array_some}
 use Rattle.descriptors.proofs.array_whole.Goals as goal

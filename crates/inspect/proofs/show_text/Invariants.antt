@@ -3,7 +3,7 @@ use lib.ListN.{length}
 use Rattle.inspect.proofs.show_text.Given as goal
 
 abbrev pub invariant-loop-start : goal.invariant-loop-start
-invariant-loop-start l = l.start ≤ length l.text
+invariant-loop-start g l = l.start ≤ length l.text
 
 abbrev pub decreases-loop-start : goal.decreases-loop-start
-decreases-loop-start l = length l.text - l.start
+decreases-loop-start g l = length l.text - l.start
