@@ -20,7 +20,7 @@ use Rattle.methods.specs.Texts.{part_words, room_of, method_text, text_store}
 use Rattle.methods.specs.Grammar.{Parameters, MethodDescriptor, FewDimensions, FewInReturn, FewInMethod, number, list_at, return_at, parameter_count, parameter_parts, return_parts}
 use Rattle.methods.specs.Theorems.{all_words}
 use Rattle.methods.proofs.Entries.{method_text_exactly, accepted_store}
-use Rattle.printing.specs.Printing.{part_bytes, is_field_part, is_return_part, printing}
+use Rattle.printing.specs.Printing.{part_bytes, is_field_part, is_return_part}
 use Rattle.printing.specs.Theorems.{Agree}
 use Rattle.printing.proofs.Laws.{ReturnPart, field_part, return_part}
 use Rattle.printing.proofs.Roundtrip.{derived_keeps, void_bytes, prints, field_tree, printed, void_agrees, agree_bytes, agree_field, agree_return}

@@ -4,7 +4,8 @@ ghost use Rattle.std.specs.Prelude.{◌≡◌, length};
 
 use crate::expect::{Trial, expect_answer, expect_bytes, expect_parts, expect_words, expect_yes};
 use crate::list::{
-    Cursor, byte_at, close, low_word, past, read_bytes, read_number, read_words, room, start,
+    Cursor, byte_at, close, large_buffer, low_word, past, read_bytes, read_number, read_words,
+    room, start,
 };
 use station::{Answer, Parts};
 
@@ -41,10 +42,10 @@ fn is_named(list: &[u8], line: usize, name: &[u8]) -> bool {
 
 // decode CODE : POOL : RECORDS : ENTRIES = ANSWER : RECORDS : ENTRIES
 fn decode_case(list: &[u8], from: Cursor) -> Trial {
-    let mut codes = io::large_buffer();
+    let mut codes = large_buffer();
     let code = read_bytes(list, from, &mut codes);
     let code_end = code.count;
-    let mut pools = io::large_buffer();
+    let mut pools = large_buffer();
     let pool = read_bytes(list, code.after, &mut pools);
     let pool_end = pool.count;
     let mut records = words();
@@ -113,7 +114,7 @@ fn method_parts(list: &[u8], line: usize, text: &[u8], parameters: &mut [u32]) -
 
 // method_prefix TEXT : PARAMETERS = PARTS : PARAMETERS, and likewise method_whole
 fn method_case(list: &[u8], line: usize, from: Cursor) -> Trial {
-    let mut texts = io::large_buffer();
+    let mut texts = large_buffer();
     let text = read_bytes(list, from, &mut texts);
     let end = text.count;
     let mut parameters = words();
@@ -178,7 +179,7 @@ fn print_part(list: &[u8], line: usize, text: &[u8], part: Part, out: &mut [u8])
 
 // print_field TEXT : PART : OUT = ANSWER : OUT, and likewise print_return
 fn print_case(list: &[u8], line: usize, from: Cursor) -> Trial {
-    let mut texts = io::large_buffer();
+    let mut texts = large_buffer();
     let text = read_bytes(list, from, &mut texts);
     let end = text.count;
     let part = read_part(list, text.after);
@@ -210,7 +211,7 @@ fn run_print(
 
 // print_method TEXT : PARAMETERS : COUNT : PART : OUT = ANSWER : OUT
 fn print_method_case(list: &[u8], from: Cursor) -> Trial {
-    let mut texts = io::large_buffer();
+    let mut texts = large_buffer();
     let text = read_bytes(list, from, &mut texts);
     let end = text.count;
     let mut parameters = words();
@@ -267,10 +268,10 @@ fn run_print_method(
 
 // identifier NAME : DESCRIPTOR : OUT = ANSWER : OUT
 fn identifier_case(list: &[u8], from: Cursor) -> Trial {
-    let mut names = io::large_buffer();
+    let mut names = large_buffer();
     let name = read_bytes(list, from, &mut names);
     let name_end = name.count;
-    let mut descriptors = io::large_buffer();
+    let mut descriptors = large_buffer();
     let descriptor = read_bytes(list, name.after, &mut descriptors);
     let descriptor_end = descriptor.count;
     let mut outputs = room();
@@ -348,7 +349,7 @@ fn run_text(list: &[u8], line: usize, after: Cursor, text: &[u8]) -> Trial {
 }
 
 fn text_case(list: &[u8], line: usize, from: Cursor) -> Trial {
-    let mut texts = io::large_buffer();
+    let mut texts = large_buffer();
     let text = read_bytes(list, from, &mut texts);
     let end = text.count;
     run_text(list, line, text.after, &texts[..end])

@@ -1,7 +1,6 @@
 // The numbers of the fixed list. A line is the name of an entry and then sections of numbers, parted by `:` or `=`. A number
 // is decimal, in a section of bytes hexadecimal; `9*27` is the number 9, 27 times; "La/;" is each of its bytes.
-ghost use Rattle.std.specs.Prelude.{◌≡◌, ◌<◌, length};
-ghost use Rattle.io.specs.Counts.{IsPrefixLen};
+ghost use Rattle.std.specs.Prelude.{◌≡◌, ◌<◌, ◌≤◌, length, take};
 
 pub const DECIMAL: u64 = 10;
 
@@ -45,6 +44,13 @@ pub fn room() -> [u8; 131072]
     ensures { 131072 ≡ length result }
 {
     [0; 131072]
+}
+
+// Room for the longest code, name or text of the list.
+pub fn large_buffer() -> [u8; 65536]
+    ensures { 65536 ≡ length result }
+{
+    [0; 65536]
 }
 
 pub fn start(at: usize) -> Cursor {
@@ -197,7 +203,7 @@ pub fn low_word(number: u64) -> u32 {
 
 // A section of bytes, as far as the store has room.
 pub fn read_bytes(list: &[u8], from: Cursor, store: &mut [u8]) -> Section
-    ensures { IsPrefixLen result.count store.new }
+    ensures { (result.count ≤ length store.new) × (result.count ≡ length (take result.count store.new)) }
 {
     let mut cursor = from;
     let mut count = 0;
@@ -217,7 +223,7 @@ pub fn read_bytes(list: &[u8], from: Cursor, store: &mut [u8]) -> Section
 
 // A section of words, likewise.
 pub fn read_words(list: &[u8], from: Cursor, store: &mut [u32]) -> Section
-    ensures { IsPrefixLen result.count store.new }
+    ensures { (result.count ≤ length store.new) × (result.count ≡ length (take result.count store.new)) }
 {
     let mut cursor = from;
     let mut count = 0;

@@ -10,8 +10,10 @@ mod list;
 ghost use Rattle.std.specs.Prelude.{◌<◌, ◌≤◌, length};
 
 use expect::{Trial, Verdict};
-use libc::STDOUT_FILENO;
 use list::{byte_at, room};
+use std::fs;
+use std::io::Read;
+use std::rt::Files;
 
 // How many numbers an answer may have: 0, and the refusals up to 35.
 const NUMBERS: usize = 36;
@@ -25,12 +27,13 @@ struct Totals {
     differing: u64,
 }
 
-fn print(bytes: &[u8]) {
-    io::write_all(STDOUT_FILENO, bytes);
+// What cannot be written is lost, and the program goes on.
+fn print(rt: &impl Print, bytes: &[u8]) {
+    let _ = rt.write_all(bytes);
 }
 
-fn print_number(number: u64) {
-    io::print_decimal(STDOUT_FILENO, number);
+fn print_number(rt: &impl Print, number: u64) {
+    let _ = print!(rt; "{number}");
 }
 
 // A count that stops at the largest number.
@@ -70,32 +73,36 @@ fn agrees(list: &[u8], trial: Trial) -> bool {
     byte_at(list, trial.cursor.at) == b'\n'
 }
 
-fn print_verdict(verdict: Verdict) {
+fn print_verdict(rt: &impl Print, verdict: Verdict) {
     match verdict {
-        Verdict::Agrees => print(b"the line goes on"),
-        Verdict::Lacks => print(b"the answer has nothing more"),
+        Verdict::Agrees => print(rt, b"the line goes on"),
+        Verdict::Lacks => print(rt, b"the answer has nothing more"),
         Verdict::Differs(answered) => {
-            print(b"the answer has ");
-            print_number(answered);
+            print(rt, b"the answer has ");
+            print_number(rt, answered);
         }
     }
 }
 
 // As `codes:17:83: the answer has 12`: file, line and the bytes of the line up to where the difference was seen.
-fn print_difference(name: &[u8], number: u64, line: usize, trial: Trial) {
-    print(name);
-    print(b":");
-    print_number(number);
-    print(b":");
-    print_number(std::num::wrapping_sub_usize(trial.cursor.at, line) as u64);
-    print(b": ");
+fn print_difference(rt: &impl Print, name: &[u8], number: u64, line: usize, trial: Trial) {
+    print(rt, name);
+    print(rt, b":");
+    print_number(rt, number);
+    print(rt, b":");
+    print_number(
+        rt,
+        std::num::wrapping_sub_usize(trial.cursor.at, line) as u64,
+    );
+    print(rt, b": ");
     let verdict = trial.verdict;
-    print_verdict(verdict);
-    print(b"\n");
+    print_verdict(rt, verdict);
+    print(rt, b"\n");
 }
 
 // The case of one line; a line that starts with `#` is a comment.
 fn run_line(
+    rt: &impl Print,
     name: &[u8],
     number: u64,
     list: &[u8],
@@ -115,96 +122,137 @@ fn run_line(
             differing: before.differing,
         };
     }
-    print_difference(name, number, line, trial);
+    print_difference(rt, name, number, line, trial);
     Totals {
         cases,
         differing: one_more(before.differing),
     }
 }
 
-fn run_lines(name: &[u8], list: &[u8], before: Totals, refusals: &mut [u64; NUMBERS]) -> Totals {
+fn run_lines(
+    rt: &impl Print,
+    name: &[u8],
+    list: &[u8],
+    before: Totals,
+    refusals: &mut [u64; NUMBERS],
+) -> Totals {
     let mut totals = before;
     let mut number = 1;
     let mut line = 0;
     while line < list.len() {
-        totals = run_line(name, number, list, line, totals, refusals);
+        totals = run_line(rt, name, number, list, line, totals, refusals);
         number = one_more(number);
         line = next_line(list, line);
     }
     totals
 }
 
+// Reads until the buffer is full, the file ends or a read fails: how many bytes it put at the front.
+fn read_full<R: Read>(file: &mut R, buffer: &mut [u8]) -> usize
+    ensures { result ≤ length buffer.new }
+{
+    let mut done = 0;
+    while done < buffer.len() {
+        let Ok(count) = file.read(&mut buffer[done..]) else {
+            return done;
+        };
+        if count == 0 {
+            return done;
+        }
+        done += count;
+    }
+    done
+}
+
+// The front of a file, as far as there is room; nothing of one that cannot be opened.
+fn read_file<R: Files>(rt: &R, name: &str, room: &mut [u8]) -> usize
+    ensures { result ≤ length room.new }
+{
+    match fs::open(rt, name) {
+        Ok(mut file) => read_full(&mut file, room),
+        Err(_) => 0,
+    }
+}
+
 // A file that cannot be read has no cases, and the counts then tell.
-fn run_file(name: &[u8], before: Totals, refusals: &mut [u64; NUMBERS]) -> Totals {
+fn run_file(
+    rt: &(impl Print + Files),
+    name: &str,
+    before: Totals,
+    refusals: &mut [u64; NUMBERS],
+) -> Totals {
     let mut room = room();
-    let file = os::open_read(name);
-    let length = io::read_full(file, &mut room);
-    libc::close(file);
-    let after = run_lines(name, &room[..length], before, refusals);
-    print(name);
-    print(b": ");
-    print_number(std::num::wrapping_sub_u64(after.cases, before.cases));
-    print(b" cases\n");
+    let length = read_file(rt, name, &mut room);
+    let after = run_lines(rt, name.as_bytes(), &room[..length], before, refusals);
+    print(rt, name.as_bytes());
+    print(rt, b": ");
+    print_number(rt, std::num::wrapping_sub_u64(after.cases, before.cases));
+    print(rt, b" cases\n");
     after
 }
 
-fn print_refusals(refusals: &[u64; NUMBERS]) {
-    print(b"refusals:");
+fn print_refusals(rt: &impl Print, refusals: &[u64; NUMBERS]) {
+    print(rt, b"refusals:");
     let mut number = 1;
     while number < NUMBERS {
-        print_refusal(number as u64, refusals[number]);
+        print_refusal(rt, number as u64, refusals[number]);
         number += 1;
     }
-    print(b"\n");
+    print(rt, b"\n");
 }
 
 // Document 01 leaves out some numbers, which no answer has.
-fn print_refusal(number: u64, count: u64) {
+fn print_refusal(rt: &impl Print, number: u64, count: u64) {
     if count > 0 {
-        print(b" ");
-        print_number(number);
-        print(b":");
-        print_number(count);
+        print(rt, b" ");
+        print_number(rt, number);
+        print(rt, b":");
+        print_number(rt, count);
     }
 }
 
 // The files of the list: the settled examples, codes, lookups, texts.
-fn run_nth(file: usize, before: Totals, refusals: &mut [u64; NUMBERS]) -> Totals {
+fn run_nth(
+    rt: &(impl Print + Files),
+    file: usize,
+    before: Totals,
+    refusals: &mut [u64; NUMBERS],
+) -> Totals {
     match file {
-        0 => run_file(b"settled", before, refusals),
-        1 => run_file(b"bytes", before, refusals),
-        2 => run_file(b"edges", before, refusals),
-        3 => run_file(b"limits", before, refusals),
-        4 => run_file(b"codes", before, refusals),
-        5 => run_file(b"lookups", before, refusals),
-        6 => run_file(b"descriptors", before, refusals),
-        7 => run_file(b"methods", before, refusals),
-        8 => run_file(b"printing", before, refusals),
-        9 => run_file(b"method_printing", before, refusals),
-        10 => run_file(b"identifiers", before, refusals),
-        _ => run_file(b"checks", before, refusals),
+        0 => run_file(rt, "settled", before, refusals),
+        1 => run_file(rt, "bytes", before, refusals),
+        2 => run_file(rt, "edges", before, refusals),
+        3 => run_file(rt, "limits", before, refusals),
+        4 => run_file(rt, "codes", before, refusals),
+        5 => run_file(rt, "lookups", before, refusals),
+        6 => run_file(rt, "descriptors", before, refusals),
+        7 => run_file(rt, "methods", before, refusals),
+        8 => run_file(rt, "printing", before, refusals),
+        9 => run_file(rt, "method_printing", before, refusals),
+        10 => run_file(rt, "identifiers", before, refusals),
+        _ => run_file(rt, "checks", before, refusals),
     }
 }
 
-fn run_all(refusals: &mut [u64; NUMBERS]) -> Totals {
+fn run_all(rt: &(impl Print + Files), refusals: &mut [u64; NUMBERS]) -> Totals {
     let mut totals = Totals {
         cases: 0,
         differing: 0,
     };
     let mut file = 0;
     while file < FILES {
-        totals = run_nth(file, totals, refusals);
+        totals = run_nth(rt, file, totals, refusals);
         file += 1;
     }
     totals
 }
 
-fn main() {
+fn main(rt: HostRuntime) {
     let mut refusals = [0u64; NUMBERS];
-    let totals = run_all(&mut refusals);
-    print_refusals(&refusals);
-    print_number(totals.cases);
-    print(b" cases, ");
-    print_number(totals.differing);
-    print(b" differ\n");
+    let totals = run_all(&rt, &mut refusals);
+    print_refusals(&rt, &refusals);
+    print_number(&rt, totals.cases);
+    print(&rt, b" cases, ");
+    print_number(&rt, totals.differing);
+    print(&rt, b" differ\n");
 }

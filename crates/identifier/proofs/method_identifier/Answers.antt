@@ -1,5 +1,4 @@
 use mathlib.Core.Path.{sym, ◌∙◌}
-use borrow.Author.Tests.{not-true, not-false}
 use Rattle.output.proofs.Writing.{refused_after}
 use Rattle.identifier.proofs.Laws.{name_refused, descriptor_refused, descriptor_accepted, within_limits, identifier_ends}
 use Rattle.identifier.proofs.method_identifier.Goals as goal

@@ -1,6 +1,5 @@
 use mathlib.Core.Path.{sym, ◌∙◌}
 use native.Mathlib.Omega.{arith}
-use borrow.Author.Tests.{not-true, not-false}
 use Rattle.method_printing.proofs.Laws.{summing_start, summing_end, summing_broken, summing_more, field_bound}
 use Rattle.method_printing.proofs.parameters_length.Goals as goal
 

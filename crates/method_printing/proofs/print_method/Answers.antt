@@ -1,10 +1,6 @@
-use Prim.Native.Nat.{◌+◌, ◌*◌, ◌≤◌}
 use mathlib.Core.Path.{sym, ◌∙◌}
 use native.Mathlib.Omega.{arith}
-use borrow.Author.Tests.{not-true, not-false}
-use Rattle.laws.specs.Bytes.{text_limit}
 use Rattle.output.proofs.Writing.{refused_after}
-use Rattle.printing.specs.Printing.{part_length}
 use Rattle.printing.proofs.Laws.{print_over, print_broken}
 use Rattle.method_printing.proofs.Laws.{records_missing, return_broken, parameters_broken, method_bound, method_refused, method_fits, method_printed}
 use Rattle.method_printing.proofs.print_method.Goals as goal

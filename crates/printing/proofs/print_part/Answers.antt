@@ -1,4 +1,3 @@
-use borrow.Author.Tests.{not-true, not-false}
 use Rattle.output.proofs.Writing.{refused_after}
 use Rattle.printing.proofs.Laws.{print_broken, part_refused, part_fits, part_printed}
 use Rattle.printing.proofs.print_part.Goals as goal
