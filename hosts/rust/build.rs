@@ -1,4 +1,4 @@
-//! Links the archive that `rt staticlib station` writes at the repository's root.
+//! Links the archive that `tools/archive` writes at the repository's root.
 use std::path::{Path, PathBuf};
 
 fn main() {
@@ -13,7 +13,7 @@ fn main() {
     if !archive.is_file() {
         stop(&format!(
             "The verified library is missing: there is no {}.\n\
-             Run `rt staticlib station` at the root of the repository, which proves every function (some minutes),\n\
+             Run `tools/archive` at the root of the repository, which proves every function (some minutes),\n\
              or set NIKOREPUM_LIB to the full path of the folder that holds libstation.a.",
             archive.display()
         ));
