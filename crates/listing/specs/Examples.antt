@@ -1,6 +1,5 @@
 -- Worked lines. Proved in proofs/Examples.antt.
 use Rattle.std.specs.Prelude.{ℕ, List, [], ◌∷◌, ◌++◌, replicate}
-use Prim.Native.String.{String}
 use Rattle.laws.specs.Bytes.{ascii}
 use Rattle.laws.specs.Examples.{Computes}
 use Rattle.records.specs.declared.Record.{Record}

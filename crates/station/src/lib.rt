@@ -133,12 +133,7 @@ fn method_parts(answer: Method) -> Parts
 }
 
 // A code decoded: `first` is the number of instructions, `next` that of switch entries.
-pub fn nk_decode(
-    code: &[u8],
-    pool: &[u8],
-    records: &mut [u32],
-    entries: &mut [u32],
-) -> Answer
+pub fn nk_decode(code: &[u8], pool: &[u8], records: &mut [u32], entries: &mut [u32]) -> Answer
     ensures answers { result ≡ decode_answer (decoding code.now pool.now (record_room records.old) (entry_room entries.old)) }
     ensures stores_records { records.new ≡ records_after code.now pool.now records.old entries.old }
     ensures stores_entries { entries.new ≡ entries_after code.now pool.now records.old entries.old }

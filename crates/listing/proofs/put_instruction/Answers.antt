@@ -1,6 +1,5 @@
 use mathlib.Core.Path.{ap, ◌∙◌}
 use native.Mathlib.Omega.{arith}
-use borrow.Author.Tests.{not-true, not-false}
 use Rattle.opcodes.specs.declared.Format.{Format}
 use Rattle.phrases.proofs.Puts.{puts_then, puts_as}
 use Rattle.listing.specs.Lines.{instruction}
