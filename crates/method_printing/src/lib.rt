@@ -39,6 +39,7 @@ fn part_at(store: &[u32], index: usize) -> FieldDescriptor
 }
 
 // Of a length over the limit no more is known, so that no sum of lengths wraps.
+#[tactic(auto, using(crate::proofs::Laws::cap_over, crate::proofs::Laws::cap_within))]
 fn cap(length: usize) -> usize
     ensures { result ≡ capped length }
 {

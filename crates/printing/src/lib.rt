@@ -60,6 +60,7 @@ fn is_type_part(text: &[u8], part: FieldDescriptor) -> bool
 }
 
 // Whether a part keeps the rules of a field, and below of a return. For printers of methods too.
+#[tactic(auto, using(crate::proofs::Laws::many_dimensions, crate::proofs::Laws::few_dimensions))]
 pub fn is_field_part(text: &[u8], part: FieldDescriptor) -> bool
     ensures { result ≡ is_field_part text.now part }
 {
