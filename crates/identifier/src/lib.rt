@@ -14,6 +14,7 @@ pub const NAME_NOT_VALID: u32 = 32;
 
 // The bytes of an identifier, written at the front of the output once they are known to fit. The lengths are within the
 // limit, so that their sum does not wrap.
+#[tactic(auto, using(crate::proofs::Laws::identifier_too_short))]
 fn write_identifier(name: &[u8], descriptor: &[u8], out: &mut [u8]) -> Output
     requires { (length name.now ≤ text_limit) × (length descriptor.now ≤ text_limit) }
     ensures answers { result ≡ writing (identifier_bytes name.now descriptor.now) (length out.old) }

@@ -32,6 +32,7 @@ pub enum Checked {
 }
 
 // Where a jump leads from an offset. The jump is in two's complement, and no sum wraps.
+#[tactic(auto, using(crate::proofs::Laws::forward, crate::proofs::Laws::below, crate::proofs::Laws::back))]
 fn target_of(at: CodeOffset, jump: u32) -> Target
     requires { at.0 < 2 ^ 32 }
     ensures { result ≡ placed (target_of at jump) }

@@ -59,6 +59,7 @@ pub fn allows_tag(kinds: Kinds, tag: u8) -> bool
 }
 
 // The entry that an index names. Byte 0 of the table is never looked at.
+#[tactic(auto, unfolding(crate::specs::Entries::entry_at))]
 pub fn entry_at(pool: &[u8], index: u32) -> Entry
     ensures { result ≡ entry_at pool.now index }
 {

@@ -3,7 +3,7 @@
 -- what the checker makes of the contract in src/, so a contract that leaves something open breaks it: a promise dropped, or
 -- made weaker, unless the others still settle what it was about. A `requires` is no premise: the promises settle the outcome
 -- for all arguments. tools/pinned holds the list against the checker's own list of published functions. Proved in
--- proofs/Pinned.antt as `published_pinned`.
+-- proofs/Pinned.antt as `published_pinned`. The exports for C have a list of their own, `ExportsSettled` of station_c.
 use Rattle.laws.specs.Pinned.{Settles}
 use Rattle.store
 use Rattle.read

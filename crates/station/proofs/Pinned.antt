@@ -1,4 +1,4 @@
--- The contracts of the C library settle what each function does: its answer, and the last contents of what is lent. The
+-- The contracts of this library settle what each function does: its answer, and the last contents of what is lent. The
 -- statement stands here, since specs/ may not name what the checker makes of src/.
 use Rattle.laws.specs.Pinned.{Settles}
 use Rattle.laws.proofs.Pinned.{result, result_lent, result_lent_lent}

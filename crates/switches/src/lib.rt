@@ -46,6 +46,7 @@ fn lifted(word: u32) -> u64
 }
 
 // How many entries a table has, or 0 where its bounds are refused.
+#[tactic(auto, using(crate::proofs::Counts::bounds_crossed, crate::proofs::Counts::too_many, crate::proofs::Counts::counted))]
 pub fn entry_count(low: u32, high: u32) -> u32
     ensures { result ≡ entry_count low high }
 {

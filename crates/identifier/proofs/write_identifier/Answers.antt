@@ -1,11 +1,6 @@
 use native.Mathlib.Omega.{arith}
-use Rattle.identifier.proofs.Laws.{identifier_too_short, identifier_written}
+use Rattle.identifier.proofs.Laws.{identifier_written}
 use Rattle.identifier.proofs.write_identifier.Goals as goal
-
-pub returns-then-out-length : goal.returns-then-out-length
-returns-then-out-length c =
-    let r = identifier_too_short c.args.name.now c.args.descriptor.now c.args.out.now (omega (arith, c.if-out-length.true)) in
-    record { answers = r.0; writes = r.1 }
 
 pub returns : goal.returns
 returns c =
