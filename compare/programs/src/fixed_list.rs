@@ -1,5 +1,5 @@
 //! The lines of the fixed list that the crate replay runs. Every answer in them is the model's, and for the reading of a
-//! text it is seen to be the crate's as well; crates/replay/src/list.rt and cases.rt say how a line is written.
+//! text it is seen to be the crate's as well; crates/replay/src/line.rt and case.rt say how a line is written.
 use crate::crate_texts::{self, REFUSED};
 use crate::station::{Answer, Parts};
 use crate::{model, text_model as texts, Part, PART};

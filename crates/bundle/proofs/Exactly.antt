@@ -5,18 +5,17 @@ use mathlib.Core.Path.{◌≡◌, refl, sym, ap, ◌∙◌, subst}
 use native.Mathlib.Omega.{arith}
 use lib.ListN.{length, take, drop, length-append, length-drop, take-append-drop}
 use lib.Seq.{length-take-le, drop-drop, take_at, drop-append_seam}
+use Rattle.std.specs.Prelude.{Some, Ok}
 use Rattle.laws.specs.Bytes.{AreBytes}
 use Rattle.read.specs.Reads.{bytes_of}
 use Rattle.read.proofs.Laws.{read_found}
 use Rattle.read.proofs.Written.{length_bytes, number_read_exactly}
 use Rattle.bundle.specs.declared.Section.{Section}
 use Rattle.bundle.specs.declared.Sections.{Sections}
-use Rattle.bundle.specs.declared.SectionRead.TheVariants.{Whole}
-use Rattle.bundle.specs.declared.Next.TheVariants as next
 use Rattle.bundle.specs.Reading.{after_length, section_of, method_of, next_of}
 use Rattle.bundle.specs.Picture.{section_bytes, section_from, sections_from, MethodAt}
 use Rattle.bundle.specs.Theorems.{MethodExactly}
-use Rattle.bundle.proofs.Laws.{bytes_fit, method_whole}
+use Rattle.bundle.proofs.Laws.{all_there, method_whole}
 use Rattle.bundle.proofs.Inside.{size_at, section_whole, then_whole, same_sections, method_of_lem}
 
 -- what is left past a section
@@ -34,7 +33,7 @@ record SectionAt (n : ℕ) (bundle : List ℕ) (at : ℕ) (section : Section) : 
   places : section ≡ section_from n at bytes
 
 module _ (n : ℕ) (bundle : List ℕ) (at : ℕ) (section : Section) (wide : 0 < n) (are : AreBytes bundle) where
-  section_drawn : section_of n bundle at ≡ Whole section → SectionAt n bundle at section
+  section_drawn : section_of n bundle at ≡ Ok section → SectionAt n bundle at section
   section_drawn h =
       let w = section_whole n bundle at h in
       let size : ℕ = size_at n bundle at in
@@ -46,7 +45,7 @@ module _ (n : ℕ) (bundle : List ℕ) (at : ℕ) (section : Section) (wide : 0 
       cc (take-append-drop n (drop at bundle), drop-drop n at bundle, number.1, take-append-drop size (drop start bundle), drop-drop size start bundle, append_assoc (bytes_of n size) found (drop (start + size) bundle)) in
       record { bytes = found; fits = rw long number.0; begins = rw (long, w.is) split; places = rw long w.is }
 
-  section_read : SectionAt n bundle at section → section_of n bundle at ≡ Whole section
+  section_read : SectionAt n bundle at section → section_of n bundle at ≡ Ok section
   unfolding after_length
   section_read d =
       let size : ℕ = length d.bytes in
@@ -55,7 +54,7 @@ module _ (n : ℕ) (bundle : List ℕ) (at : ℕ) (section : Section) (wide : 0 
       let number = (number_read_exactly n bundle (record { 0 = at }) size wide are).1 (d.fits, front) in
       let long = simp (length-append, length-drop, length_bytes) at (ap length d.begins) in
       let enough : size ≤ length bundle - (at + n) = omega arith in
-      ap (after_length bundle) number ∙ bytes_fit bundle size (at + n) enough ∙ ap Whole (sym d.places)
+      all_there n bundle at number enough ∙ ap Ok (sym d.places)
 
 -- a section that stands at an offset, and what is left past it
 drawn_at : (n : ℕ) (bundle : List ℕ) (at : ℕ) (bytes rest : List ℕ) → length bytes < 256 ^ n → drop at bundle ≡ section_bytes n bytes ++ rest → SectionAt n bundle at (section_from n at bytes)
@@ -93,7 +92,7 @@ module _ (bundle : List ℕ) (at : ℕ) where
       }
 
 module _ (bundle : List ℕ) (at : ℕ) (sections : Sections) (are : AreBytes bundle) where
-  method_drawn : method_of bundle at ≡ next.Method sections → MethodAt bundle at sections
+  method_drawn : method_of bundle at ≡ Ok (Some sections) → MethodAt bundle at sections
   unfolding method_of
   method_drawn h =
       let n = then_whole _ _ sections h in
@@ -107,7 +106,7 @@ module _ (bundle : List ℕ) (at : ℕ) (sections : Sections) (are : AreBytes bu
       (section_drawn 2 bundle d.0.end p.0 (omega arith) are p.1)
       (section_drawn 4 bundle p.0.end k.0 (omega arith) are k.1))
 
-  method_read : MethodAt bundle at sections → next_of bundle at ≡ next.Method sections
+  method_read : MethodAt bundle at sections → next_of bundle at ≡ Ok (Some sections)
   method_read m =
       let rest : List ℕ = drop sections.code.end bundle in
       let name_at = m.begins ∙ regrouped (section_bytes 2 m.name) (section_bytes 2 m.descriptor) (section_bytes 2 m.pool) (section_bytes 4 m.code) rest in
@@ -115,12 +114,12 @@ module _ (bundle : List ℕ) (at : ℕ) (sections : Sections) (are : AreBytes bu
       let pool_at = section_past 2 bundle _ m.descriptor _ descriptor_at in
       let code_at = section_past 2 bundle _ m.pool _ pool_at in
       let long = simp (length-append, length-drop, length_bytes) at (ap length name_at) in
-      sym (method_whole bundle at (λ e. omega arith)
+      method_whole bundle at (λ e. omega arith)
       (section_read 2 bundle at _ (omega arith) are (drawn_at 2 bundle at m.name _ m.name_fits name_at))
       (section_read 2 bundle _ _ (omega arith) are (drawn_at 2 bundle _ m.descriptor _ m.descriptor_fits descriptor_at))
       (section_read 2 bundle _ _ (omega arith) are (drawn_at 2 bundle _ m.pool _ m.pool_fits pool_at))
-      (section_read 4 bundle _ _ (omega arith) are (drawn_at 4 bundle _ m.code _ m.code_fits code_at)))
-      ∙ ap next.Method (sym m.places)
+      (section_read 4 bundle _ _ (omega arith) are (drawn_at 4 bundle _ m.code _ m.code_fits code_at))
+      ∙ ap (λ (s : Sections). Ok (Some s)) (sym m.places)
 
 pub method_exactly : MethodExactly
 method_exactly bundle at sections are = (λ h. method_drawn bundle at sections are (method_of_lem bundle at h), method_read bundle at sections are)

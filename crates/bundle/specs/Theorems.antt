@@ -1,10 +1,9 @@
 -- A method is read exactly where what is left of the bundle begins with one, and lies inside the bundle. The proofs are in
 -- proofs/Exactly.antt and proofs/Inside.antt.
-use Rattle.std.specs.Prelude.{ℕ, ◌+◌, ◌≤◌, List, ◌↔◌, ◌≡◌, length}
+use Rattle.std.specs.Prelude.{ℕ, ◌+◌, ◌≤◌, List, ◌↔◌, ◌≡◌, length, Some, Ok}
 use Rattle.laws.specs.Bytes.{AreBytes}
 use Rattle.bundle.specs.declared.Section.{Section}
 use Rattle.bundle.specs.declared.Sections.{Sections}
-use Rattle.bundle.specs.declared.Next.TheVariants as next
 use Rattle.bundle.specs.Reading.{next_of}
 use Rattle.bundle.specs.Picture.{MethodAt}
 
@@ -12,7 +11,7 @@ use Rattle.bundle.specs.Picture.{MethodAt}
 abbrev pub MethodExactly : Type 0
 MethodExactly =
     (bundle : List ℕ) (at : ℕ) (sections : Sections) → AreBytes bundle
-    → (next_of bundle at ≡ next.Method sections) ↔ MethodAt bundle at sections
+    → (next_of bundle at ≡ Ok (Some sections)) ↔ MethodAt bundle at sections
 
 -- a section that starts no earlier than an offset and ends no later than the bundle
 pub record SectionInside (bundle : List ℕ) (from : ℕ) (section : Section) : Type 0 where
@@ -29,4 +28,4 @@ pub record SectionsInside (bundle : List ℕ) (at : ℕ) (sections : Sections) :
 
 -- proved as `method_inside`
 abbrev pub MethodInside : Type 0
-MethodInside = (bundle : List ℕ) (at : ℕ) (sections : Sections) → next_of bundle at ≡ next.Method sections → SectionsInside bundle at sections
+MethodInside = (bundle : List ℕ) (at : ℕ) (sections : Sections) → next_of bundle at ≡ Ok (Some sections) → SectionsInside bundle at sections

@@ -5,55 +5,57 @@ use mathlib.Core.List.{List}
 use mathlib.Core.Path.{◌≡◌, refl, sym, ap, ap₂, ◌∙◌, subst}
 use native.Mathlib.Omega.{arith}
 use lib.ListN.{length}
-use Rattle.read.specs.declared.CodeOffset.{CodeOffset}
+use Rattle.std.specs.Prelude.{Ok, Err}
+use Rattle.refusals.specs.Numbers.{refused}
 use Rattle.instruction.specs.Entries.{entries_of}
 use Rattle.lines.specs.Lines.{Lines, lines_of}
 use Rattle.records.specs.Records.{record_room, entry_room}
-use Rattle.jumps.specs.declared.Checked.{Checked}
-use Rattle.jumps.specs.declared.Checked.TheVariants as checked
-use Rattle.jumps.specs.Jumps.{check}
+use Rattle.jumps.specs.declared.Failure.{Failure}
+use Rattle.jumps.specs.Jumps.{Checked, check}
 use Rattle.jumps.specs.Stored.{jumps_in}
-use Rattle.bytecode.specs.declared.Decoded.TheVariants as decoded
-use Rattle.bytecode.specs.declared.Run.{Run}
-use Rattle.bytecode.specs.declared.Run.TheVariants as run
-use Rattle.bytecode.specs.Decoding.{code_limit, pool_limit, fitting, fitted, run_from, records_from, entries_from, jumps_of, judged, answer_of, decoding, store_after, records_after, entries_after}
+use Rattle.bytecode.specs.Decoding.{Run, Decision, counts, code_limit, pool_limit, fitting, fitted, run_from, records_from, entries_from, jumps_of, judged, answer_of, decoding, store_after, records_after, entries_after}
 use Rattle.bytecode.specs.Theorems.{StoresSay}
 use Rattle.bytecode.proofs.Laws.{by_fitting, not_filled}
 use Rattle.bytecode.proofs.Limits.{Limits, by_limits}
 use Rattle.bytecode.proofs.Stored.{filled_jumps}
 
 -- lines that fill stores fit all
-pub filled_fits : (ls : Lines) (records entries k m k' m' : ℕ) → run_from k m (fitting records entries ls) ≡ run.Filled k' m' → fitting records entries ls ≡ ls
+pub filled_fits : (ls : Lines) (records entries k m k' m' : ℕ) → run_from k m (fitting records entries ls) ≡ Ok (counts k' m') → fitting records entries ls ≡ ls
 unfolding run_from
 filled_fits =
-    by_fitting (λ records entries ls fit. (k m k' m' : ℕ) → run_from k m fit ≡ run.Filled k' m' → fit ≡ ls)
+    by_fitting (λ records entries ls fit. (k m k' m' : ℕ) → run_from k m fit ≡ Ok (counts k' m') → fit ≡ ls)
     (λ l rest fit records entries room h k m k' m' e. ap (Lines.line l) (h (k + 1) (m + entries_of l.instruction) k' m' e))
     (λ l rest records entries k m k' m' e. absurd (not_filled e))
     (λ l rest entries k m k' m' e. absurd (not_filled e))
     (λ records entries k m k' m' e. refl)
-    (λ records entries n p k m k' m' e. refl)
+    (λ records entries r k m k' m' e. refl)
 
-never : {n : ℕ} {p : CodeOffset} {second k m : ℕ} → decoded.Refused n p second ≡ decoded.Accepted k m → ⊥
+never : {f : Failure} {k m : ℕ} → ◌≡◌ {A = Decision} (Err f) (Ok (counts k m)) → ⊥
 never e = let z : ◌≡◌ {A = ℕ} 0 1 = cc in omega arith
 
-judged_accepted : (r : Run) (c : Checked) (k m : ℕ) → judged r c ≡ decoded.Accepted k m → (r ≡ run.Filled k m) × (c ≡ checked.Good)
-judged_accepted (run.Filled k' m') checked.Good k m e = (cc, refl)
-judged_accepted (run.Filled k' m') (checked.Bad n p second) k m e = absurd (never e)
-judged_accepted (run.Refused n p) c k m e = absurd (never e)
+-- the answer of a decision as that of the run before it
+abbrev run_of : Decision → Run
+run_of (Ok d) = Ok d
+run_of (Err f) = Err (refused f.reason f.place)
+
+judged_accepted : (r : Run) (c : Checked) (k m : ℕ) → judged r c ≡ Ok (counts k m) → (r ≡ Ok (counts k m)) × (c ≡ Ok tt)
+judged_accepted (Ok d) (Ok good) k m e = (ap run_of e, refl)
+judged_accepted (Ok d) (Err f) k m e = absurd (never e)
+judged_accepted (Err r) c k m e = absurd (never e)
 
 module _ (code pool : List ℕ) (room_of_records room_of_entries k m : ℕ) where
   pub record Acceptance : Type 0 where
     pub short_code : length code ≤ code_limit
     pub short_pool : length pool ≤ pool_limit
     pub all_fit : fitted code pool room_of_records room_of_entries ≡ lines_of code pool
-    pub filled : run_from 0 0 (lines_of code pool) ≡ run.Filled k m
-    pub good : check (jumps_of code (lines_of code pool)) ≡ checked.Good
+    pub filled : run_from 0 0 (lines_of code pool) ≡ Ok (counts k m)
+    pub good : check (jumps_of code (lines_of code pool)) ≡ Ok tt
 
-  pub acceptance : decoding code pool room_of_records room_of_entries ≡ decoded.Accepted k m → Acceptance
+  pub acceptance : decoding code pool room_of_records room_of_entries ≡ Ok (counts k m) → Acceptance
   unfolding decoding
   acceptance accepted = go (by_limits code pool (answer_of code (fitted code pool room_of_records room_of_entries)) accepted)
     where
-      go : Limits code pool (answer_of code (fitted code pool room_of_records room_of_entries)) (decoded.Accepted k m) → Acceptance
+      go : Limits code pool (answer_of code (fitted code pool room_of_records room_of_entries)) (Ok (counts k m)) → Acceptance
       go (Limits.within c p e) =
           let both = judged_accepted _ _ k m (sym e) in
           let fits = filled_fits (lines_of code pool) room_of_records room_of_entries 0 0 k m both.0 in
@@ -67,7 +69,7 @@ module _ (code pool : List ℕ) (room_of_records room_of_entries k m : ℕ) wher
       go (Limits.long_pool c p e) = absurd (never (sym e))
       go (Limits.long_code c e) = absurd (never (sym e))
 
-module _ (code pool records entries : List ℕ) (k m : ℕ) (accepted : decoding code pool (record_room records) (entry_room entries) ≡ decoded.Accepted k m) where
+module _ (code pool records entries : List ℕ) (k m : ℕ) (accepted : decoding code pool (record_room records) (entry_room entries) ≡ Ok (counts k m)) where
   accepts : Acceptance code pool (record_room records) (entry_room entries) k m
   accepts = acceptance code pool (record_room records) (entry_room entries) k m accepted
 

@@ -6,9 +6,12 @@ use native.Mathlib.Nat.{sub-zero}
 use native.Mathlib.Omega.{arith}
 use lib.ListN.{length}
 use lib.Seq.{length-sets}
+use Rattle.std.specs.Prelude.{Ok, Err}
+use Rattle.refusals.specs.declared.Reason.TheVariants as reason
+use Rattle.refusals.specs.declared.Refusal.{Refusal}
+use Rattle.refusals.specs.Numbers.{refused}
 use Rattle.read.specs.declared.CodeOffset.{CodeOffset}
 use Rattle.ordinary.specs.declared.Instruction.{Instruction}
-use Rattle.ordinary.specs.declared.Step.TheVariants as step
 use Rattle.instruction.specs.Steps.{step_of}
 use Rattle.instruction.specs.Entries.{entries_of}
 use Rattle.instruction.proofs.Exactly.{step_within}
@@ -17,9 +20,7 @@ use Rattle.lines.proofs.Laws.{lines_more, lines_stop, lines_end}
 use Rattle.records.specs.Records.{record_words, entry_words, record_room, entry_room, index, words_of, all_entry_words}
 use Rattle.switches.specs.Entries.{entries_in}
 use Rattle.filling.specs.Filling.{record_of}
-use Rattle.bytecode.specs.declared.Run.{Run}
-use Rattle.bytecode.specs.declared.Run.TheVariants as run
-use Rattle.bytecode.specs.Decoding.{fitting, fitted, run_from, with_record, with_entries, records_from, entries_from}
+use Rattle.bytecode.specs.Decoding.{Run, counts, fitting, fitted, run_from, with_record, with_entries, records_from, entries_from}
 use Rattle.bytecode.proofs.Laws.{fit_line, fit_14, fit_15}
 
 module _ (code pool records₀ entries₀ : List ℕ) where
@@ -70,7 +71,7 @@ module _ (code pool records₀ entries₀ : List ℕ) where
     fill_reads : {ls : Lines} → lines_from code pool (length code - k) (record { 0 = at }) ≡ ls → left at k m ≡ fitting (record_room records₀ - k) (entry_room entries₀ - m) ls
     fill_reads e = ap (fitting (record_room records₀ - k) (entry_room entries₀ - m)) e
 
-    pub fill_end : length code ≤ at → Fills (run.Filled k m) records entries
+    pub fill_end : length code ≤ at → Fills (Ok (counts k m)) records entries
     unfolding fitting run_from records_from entries_from
     fill_end h = fill_is (fill_reads (lines_end code pool (record { 0 = at }) (length code - k) h))
 
@@ -78,11 +79,11 @@ module _ (code pool records₀ entries₀ : List ℕ) where
       one_more : length code - k ≡ suc (length code - (k + 1))
       one_more = omega (arith, l.counted)
 
-      pub fill_refused : (n : ℕ) (p : CodeOffset) → step_of code pool (record { 0 = at }) ≡ step.Refused n p → Fills (run.Refused n p) records entries
+      pub fill_refused : (r : Refusal CodeOffset) → step_of code pool (record { 0 = at }) ≡ Err r → Fills (Err r) records entries
       unfolding fitting run_from records_from entries_from
-      fill_refused n p e = fill_is (fill_reads {ls = Lines.stop n p} (rw one_more (lines_stop code pool (record { 0 = at }) _ h e)))
+      fill_refused r e = fill_is (fill_reads {ls = Lines.stop r} (rw one_more (lines_stop code pool (record { 0 = at }) _ h e)))
 
-      module _ (i : Instruction) (next : CodeOffset) (e : step_of code pool (record { 0 = at }) ≡ step.Decoded i next) where
+      module _ (i : Instruction) (next : CodeOffset) (e : step_of code pool (record { 0 = at }) ≡ Ok (i, next)) where
         abbrev this : Line
         this = record { at = record { 0 = at }; instruction = i; next = next }
 
@@ -93,12 +94,12 @@ module _ (code pool records₀ entries₀ : List ℕ) where
         unfolding rest
         reads_this = fill_reads (rw one_more (lines_more code pool (record { 0 = at }) _ h e))
 
-        pub fill_14 : entry_room entries₀ - m < entries_of i → Fills (run.Refused 14 (record { 0 = at })) records entries
+        pub fill_14 : entry_room entries₀ - m < entries_of i → Fills (Err (refused reason.NoEntryLeft (record { 0 = at }))) records entries
         unfolding run_from records_from entries_from
         fill_14 few = fill_is (reads_this ∙ fit_14 this rest _ _ few)
 
         module _ (room : entries_of i ≤ entry_room entries₀ - m) where
-          pub fill_15 : record_room records₀ ≤ k → Fills (run.Refused 15 (record { 0 = at })) records entries
+          pub fill_15 : record_room records₀ ≤ k → Fills (Err (refused reason.NoRecordLeft (record { 0 = at }))) records entries
           unfolding run_from records_from entries_from
           fill_15 full =
               let none : record_room records₀ - k ≡ 0 = omega arith in

@@ -6,16 +6,15 @@ use mathlib.Core.Path.{◌≡◌, refl, sym, ◌∙◌}
 use borrow.Author.Tests.{le-leb, lt-leb, leb-true, leb-false}
 use lib.Dec.{leb}
 use lib.ListN.{length}
-use Rattle.bytecode.specs.declared.Decoded.{Decoded}
-use Rattle.bytecode.specs.declared.Decoded.TheVariants as decoded
-use Rattle.bytecode.specs.Decoding.{code_limit, pool_limit, limited}
+use Rattle.refusals.specs.declared.Reason.TheVariants as reason
+use Rattle.bytecode.specs.Decoding.{Decision, at_once, code_limit, pool_limit, limited}
 
-module _ (code pool : List ℕ) (answer : Decoded) where
-  pub over_code : code_limit < length code → limited code pool answer ≡ decoded.Refused 1 (record { 0 = 0 }) 0
+module _ (code pool : List ℕ) (answer : Decision) where
+  pub over_code : code_limit < length code → limited code pool answer ≡ at_once reason.CodeTooLong
   unfolding limited
   over_code h = rw (lt-leb _ _ h, limited)
 
-  pub over_pool : length code ≤ code_limit → pool_limit < length pool → limited code pool answer ≡ decoded.Refused 2 (record { 0 = 0 }) 0
+  pub over_pool : length code ≤ code_limit → pool_limit < length pool → limited code pool answer ≡ at_once reason.PoolTooLong
   unfolding limited
   over_pool h k = rw (le-leb _ _ h, lt-leb _ _ k, limited)
 
@@ -24,12 +23,12 @@ module _ (code pool : List ℕ) (answer : Decoded) where
   both_within h k = rw (le-leb _ _ h, le-leb _ _ k, limited)
 
   -- the three ways to an answer
-  pub data Limits (r : Decoded) : Type 0 where
-    long_code : code_limit < length code → r ≡ decoded.Refused 1 (record { 0 = 0 }) 0 → Limits r
-    long_pool : length code ≤ code_limit → pool_limit < length pool → r ≡ decoded.Refused 2 (record { 0 = 0 }) 0 → Limits r
+  pub data Limits (r : Decision) : Type 0 where
+    long_code : code_limit < length code → r ≡ at_once reason.CodeTooLong → Limits r
+    long_pool : length code ≤ code_limit → pool_limit < length pool → r ≡ at_once reason.PoolTooLong → Limits r
     within : length code ≤ code_limit → length pool ≤ pool_limit → r ≡ answer → Limits r
 
-  pub by_limits : {r : Decoded} → limited code pool answer ≡ r → Limits r
+  pub by_limits : {r : Decision} → limited code pool answer ≡ r → Limits r
   by_limits {r = r} e = go (leb (length code) code_limit) refl (leb (length pool) pool_limit) refl
     where
       go : (c : Bool) → leb (length code) code_limit ≡ c → (p : Bool) → leb (length pool) pool_limit ≡ p → Limits r

@@ -14,8 +14,9 @@ use Rattle.laws.proofs.Listed.{listed_agree, map_listed}
 use Rattle.read.specs.declared.CodeOffset.{CodeOffset}
 use Rattle.ordinary.specs.declared.Instruction.{Instruction}
 use Rattle.ordinary.specs.declared.Instruction.TheVariants as instruction
-use Rattle.ordinary.specs.declared.Step.TheVariants as step
 use Rattle.switches.specs.Switches.{entry_count}
+use Rattle.std.specs.Prelude.{Ok, Option}
+use Rattle.std.specs.Option.{unwrap_or}
 use Rattle.instruction.specs.Steps.{step_of}
 use Rattle.instruction.specs.Entries.{entries_of}
 use Rattle.instruction.proofs.Exactly.{step_within}
@@ -33,8 +34,7 @@ use Rattle.switches.specs.Entries.{entries_in}
 use Rattle.filling.specs.Filling.{record_of}
 use Rattle.filling.proofs.Entries.{all_entries}
 use Rattle.filling.proofs.Decoded.{table_counted, ordinary_kind}
-use Rattle.bytecode.specs.declared.Run.TheVariants as run
-use Rattle.bytecode.specs.Decoding.{fitting, fitted, run_from, with_record, with_entries, records_from, entries_from, jump_words, line_jumps, jumps_of}
+use Rattle.bytecode.specs.Decoding.{counts, fitting, fitted, run_from, with_record, with_entries, records_from, entries_from, jump_words, line_jumps, jumps_of}
 use Rattle.bytecode.specs.Theorems.{StoredSay}
 use Rattle.bytecode.proofs.Laws.{by_fitting, not_filled, fitting_short, run_count, records_before, entries_before, length_records, length_entries}
 
@@ -76,29 +76,32 @@ module _ (code pool : List ℕ) (at : CodeOffset) (next : CodeOffset) (m : ℕ) 
   entry_jumps : (es : List SwitchEntry) → listed (λ (i : ℕ). entry_at entries (index (m + i))) 0 (length es) ≡ es → listed (entry_jump entries (index m)) 0 (length es) ≡ map (λ (e : SwitchEntry). e.jump) es
   entry_jumps es h = sym (map_listed (λ (e : SwitchEntry). e.jump) (λ (i : ℕ). entry_at entries (index (m + i))) (length es) 0) ∙ ap (map (λ (e : SwitchEntry). e.jump)) h
 
-  no_entries : (kind a b : ℕ) → step_of code pool at ≡ step.Decoded (instruction.Ordinary kind a b) next → stored_entries (record_of at (index m) (instruction.Ordinary kind a b)) ≡ 0
+  no_entries : (kind a b : ℕ) → step_of code pool at ≡ Ok ((instruction.Ordinary kind a b), next) → stored_entries (record_of at (index m) (instruction.Ordinary kind a b)) ≡ 0
   unfolding stored_entries
   no_entries kind a b e =
       let other = ordinary_kind code pool at kind a b next e in
       rw (ne_eqb _ _ other.0, ne_eqb _ _ other.1, stored_entries)
 
+  table_number : (default low high : ℕ) (from : CodeOffset) (count : ℕ) → step_of code pool at ≡ Ok (instruction.TableSwitch default low high from count, next) → count ≡ unwrap_or (entry_count low high) 0
+  table_number default low high from count e = ap (λ (number : Option ℕ). unwrap_or number 0) (table_counted code pool at default low high from count next e)
+
   stored_words_lem :
-      (i : Instruction) → step_of code pool at ≡ step.Decoded i next
+      (i : Instruction) → step_of code pool at ≡ Ok (i, next)
       → listed (λ (j : ℕ). entry_at entries (index (m + j))) 0 (length (entries_in code i)) ≡ entries_in code i
       → stored_words entries (record_of at (index m) i) ≡ jump_words code i
   unfolding stored_words jump_words has_jump stored_entries listed
   stored_words_lem (instruction.Ordinary kind a b) e h =
       ap (λ (n : ℕ). elim (has_jump kind) [ true ↦ a ∷ listed (entry_jump entries (index 0)) 0 n | false ↦ [] ]) (no_entries kind a b e)
   stored_words_lem (instruction.TableSwitch default low high from count) e h =
-      let number : entry_count low high ≡ length (entries_in code (instruction.TableSwitch default low high from count)) = sym (all_entries code (instruction.TableSwitch default low high from count) ∙ table_counted code pool at default low high from count next e) in
+      let number = sym (all_entries code (instruction.TableSwitch default low high from count) ∙ table_number default low high from count e) in
       ap (λ (l : List ℕ). default ∷ l) (ap (listed (entry_jump entries (index m)) 0) number ∙ entry_jumps _ h)
   stored_words_lem (instruction.LookupSwitch default from count) e h =
       ap (λ (l : List ℕ). default ∷ l) (ap (listed (entry_jump entries (index m)) 0) (sym (all_entries code (instruction.LookupSwitch default from count))) ∙ entry_jumps _ h)
 
-  stored_held : (i : Instruction) → step_of code pool at ≡ step.Decoded i next → m + entries_of i ≤ entry_room entries → Held entries (record_of at (index m) i)
+  stored_held : (i : Instruction) → step_of code pool at ≡ Ok (i, next) → m + entries_of i ≤ entry_room entries → Held entries (record_of at (index m) i)
   unfolding stored_entries
   stored_held (instruction.Ordinary kind a b) e h = omega (arith, no_entries kind a b e)
-  stored_held (instruction.TableSwitch default low high from count) e h = omega (arith, table_counted code pool at default low high from count next e)
+  stored_held (instruction.TableSwitch default low high from count) e h = omega (arith, table_number default low high from count e)
   stored_held (instruction.LookupSwitch default from count) e h = h
 
 record_offset : (at : CodeOffset) (first : RecordIndex) (i : Instruction) → (record_of at first i).offset ≡ at.0
@@ -111,7 +114,7 @@ module _ (code pool : List ℕ) where
   Stores k m at records entries ls = Holds code k at.0 (list_of ls) (records_from k m ls records) (entries_from code m ls entries)
 
   -- a line whose words are written, and whatever is stored after it
-  module _ (l : Line) (k m : ℕ) (records entries : List ℕ) (after : Lines) (stands : step_of code pool l.at ≡ step.Decoded l.instruction l.next) (has_record : k < record_room records) (has_entries : m + entries_of l.instruction ≤ entry_room entries) where
+  module _ (l : Line) (k m : ℕ) (records entries : List ℕ) (after : Lines) (stands : step_of code pool l.at ≡ Ok (l.instruction, l.next)) (has_record : k < record_room records) (has_entries : m + entries_of l.instruction ≤ entry_room entries) where
     abbrev own : Record
     own = record_of l.at (index m) l.instruction
 
@@ -148,7 +151,7 @@ module _ (code pool : List ℕ) where
   AllStored free_records free_entries ls fit =
       (at : CodeOffset) (k m : ℕ) (records entries : List ℕ) (k' m' : ℕ)
       → Consecutive code pool at ls → k + free_records ≡ record_room records → m + free_entries ≡ entry_room entries
-      → run_from k m fit ≡ run.Filled k' m' → Stores k m at records entries fit
+      → run_from k m fit ≡ Ok (counts k' m') → Stores k m at records entries fit
 
   stored_one :
       (l : Line) (rest fit : Lines) (free_records free_entries : ℕ) → entries_of l.instruction ≤ free_entries
@@ -169,13 +172,13 @@ module _ (code pool : List ℕ) where
       (λ l rest free_entries at k m records entries k' m' f r e filled. absurd (not_filled filled))
       (λ free_records free_entries at k m records entries k' m' f r e filled.
       record { jumps = refl; held = λ i a b. absurd (omega arith); above = λ i a b. absurd (omega arith); rising = λ i j a lt b. absurd (omega arith) })
-      (λ free_records free_entries n p at k m records entries k' m' f r e filled. absurd (not_filled filled))
+      (λ free_records free_entries p at k m records entries k' m' f r e filled. absurd (not_filled filled))
 
 -- What a run that fills the stores from any marks on leaves in them
 module _
     (code pool records entries : List ℕ) (k m room_of_records room_of_entries : ℕ) {k' m' : ℕ}
     (room : k + room_of_records ≡ record_room records) (entries_room : m + room_of_entries ≡ entry_room entries)
-    (filled : run_from k m (fitted code pool room_of_records room_of_entries) ≡ run.Filled k' m')
+    (filled : run_from k m (fitted code pool room_of_records room_of_entries) ≡ Ok (counts k' m'))
   where
     pub holds : Stores code pool k m (record { 0 = 0 }) records entries (fitted code pool room_of_records room_of_entries)
     holds =
@@ -190,7 +193,7 @@ stored_say code pool records entries k m room_of_records room_of_entries count s
     ∙ (holds code pool records entries k m room_of_records room_of_entries room entries_room filled).jumps
 
 -- and from the start
-module _ (code pool records entries : List ℕ) {k m : ℕ} (filled : run_from 0 0 (fitted code pool (record_room records) (entry_room entries)) ≡ run.Filled k m) where
+module _ (code pool records entries : List ℕ) {k m : ℕ} (filled : run_from 0 0 (fitted code pool (record_room records) (entry_room entries)) ≡ Ok (counts k m)) where
   abbrev fit : Lines
   fit = fitted code pool (record_room records) (entry_room entries)
 

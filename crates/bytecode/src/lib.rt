@@ -10,38 +10,23 @@ ghost use Rattle.switches.specs.Entries.{entries_in, EntriesInside};
 ghost use Rattle.filling.specs.Filling.{record_of};
 ghost use Rattle.bytecode.specs.Decoding.{code_limit, fitted, run_from, records_from, entries_from, decoding, records_after, entries_after, store_after};
 
-use jumps::Checked;
-use ordinary::{Instruction, Step};
+use jumps::Failure;
+use lookup::SortedRecords;
+use ordinary::Instruction;
 use read::CodeOffset;
-use records::{ENTRY_WORDS, RECORD_WORDS, RecordIndex, to_usize};
-
-// Document 01's refusals of a whole code, of its pool table, and for want of room.
-pub const CODE_TOO_LONG: u32 = 1;
-
-pub const POOL_TOO_LONG: u32 = 2;
-
-pub const NO_ENTRY_LEFT: u32 = 14;
-
-pub const NO_RECORD_LEFT: u32 = 15;
+use records::{ENTRY_WORDS, RECORD_WORDS, RecordIndex};
+use refusals::{Reason, Refusal};
 
 // The most bytes of a code and of a pool table. On paper: `code_limit` and `pool_limit`.
 pub const CODE_LIMIT: usize = 65535;
 
 pub const POOL_LIMIT: usize = 4096;
 
-// What decoding answers: the number of instructions and of switch entries, or a refusal's number, its place and its second
-// number.
-#[derive(Clone, Copy)]
-pub enum Decoded {
-    Accepted(usize, usize),
-    Refused(u32, CodeOffset, u32),
-}
-
-// What filling the stores answers, before any jump is looked at.
-#[derive(Clone, Copy)]
-pub enum Run {
-    Filled(usize, usize),
-    Refused(u32, CodeOffset),
+// How many instructions and switch entries were decoded.
+#[derive(Clone, Copy, Debug, PartialEq, Eq)]
+pub struct Decoded {
+    pub instructions: usize,
+    pub entries: usize,
 }
 
 // The instruction at an offset, in both stores: its record at an index, and its entries from the first on.
@@ -65,93 +50,94 @@ fn put_line(
 }
 
 // All instructions into the stores, as far as these have room. A refusal leaves those before it there.
-fn fill(code: &[u8], pool: &[u8], records: &mut [u32], entries: &mut [u32]) -> Run
+fn fill(
+    code: &[u8],
+    pool: &[u8],
+    records: &mut [u32],
+    entries: &mut [u32],
+) -> Result<Decoded, Refusal<CodeOffset>>
     requires { length code.now ≤ code_limit }
     ensures answers { result ≡ run_from 0 0 (fitted code.now pool.now (record_room records.old) (entry_room entries.old)) }
     ensures fills_records { records.new ≡ records_from 0 0 (fitted code.now pool.now (record_room records.old) (entry_room entries.old)) records.old }
     ensures fills_entries { entries.new ≡ entries_from code.now 0 (fitted code.now pool.now (record_room records.old) (entry_room entries.old)) entries.old }
 {
-    let formats = opcodes::formats();
     let record_room = records.len() / RECORD_WORDS;
     let entry_room = entries.len() / ENTRY_WORDS;
     let mut at = 0;
     let mut count = 0;
     let mut stored = 0;
+    // No `for`: each instruction says where the next one starts.
     while at < code.len() {
-        match instruction::step(&formats, code, pool, CodeOffset(at)) {
-            Step::Refused(number, place) => {
-                return Run::Refused(number, place);
-            }
-            Step::Decoded(instruction, next) => {
-                let own = to_usize(filling::entries_of(instruction));
-                if entry_room - stored < own {
-                    return Run::Refused(NO_ENTRY_LEFT, CodeOffset(at));
-                }
-                if record_room <= count {
-                    return Run::Refused(NO_RECORD_LEFT, CodeOffset(at));
-                }
-                put_line(
-                    code,
-                    CodeOffset(at),
-                    instruction,
-                    records,
-                    RecordIndex(count),
-                    entries,
-                    RecordIndex(stored),
-                );
-                at = next.0;
-                count += 1;
-                stored += own;
-            }
+        let here = CodeOffset(at);
+        let (instruction, next) = instruction::instruction_at(code, pool, here)?;
+        let own = filling::entries_of(instruction) as usize;
+        if entry_room - stored < own {
+            return Err(Reason::NoEntryLeft.at(here));
         }
+        if record_room <= count {
+            return Err(Reason::NoRecordLeft.at(here));
+        }
+        put_line(
+            code,
+            here,
+            instruction,
+            records,
+            RecordIndex(count),
+            entries,
+            RecordIndex(stored),
+        );
+        at = next.0;
+        count += 1;
+        stored += own;
     }
-    Run::Filled(count, stored)
+    Ok(Decoded {
+        instructions: count,
+        entries: stored,
+    })
 }
 
 // The answer. A refusal leaves in the stores what was written before it.
-fn decide(code: &[u8], pool: &[u8], records: &mut [u32], entries: &mut [u32]) -> Decoded
+fn decide(
+    code: &[u8],
+    pool: &[u8],
+    records: &mut [u32],
+    entries: &mut [u32],
+) -> Result<Decoded, Failure>
     ensures answers { result ≡ decoding code.now pool.now (record_room records.old) (entry_room entries.old) }
     ensures fills_records { store_after 0 result records.old records.new ≡ records_after code.now pool.now records.old entries.old }
     ensures fills_entries { store_after 0 result entries.old entries.new ≡ entries_after code.now pool.now records.old entries.old }
 {
     if CODE_LIMIT < code.len() {
-        return Decoded::Refused(CODE_TOO_LONG, CodeOffset(0), 0);
+        return Err(Reason::CodeTooLong.at(CodeOffset(0)).into());
     }
     if POOL_LIMIT < pool.len() {
-        return Decoded::Refused(POOL_TOO_LONG, CodeOffset(0), 0);
+        return Err(Reason::PoolTooLong.at(CodeOffset(0)).into());
     }
-    match fill(code, pool, records, entries) {
-        Run::Refused(number, place) => Decoded::Refused(number, place, 0),
-        Run::Filled(count, stored) => match jumps::check_jumps(&*records, count, &*entries) {
-            Checked::Good => Decoded::Accepted(count, stored),
-            Checked::Bad(number, place, second) => Decoded::Refused(number, place, second),
-        },
-    }
-}
-
-// The answer, both stores cleared if it is a refusal.
-fn settled(records: &mut [u32], entries: &mut [u32], answer: Decoded) -> Decoded
-    ensures same { result ≡ answer }
-    ensures clears_records { records.new ≡ store_after 0 answer records.old records.old }
-    ensures clears_entries { entries.new ≡ store_after 0 answer entries.old entries.old }
-{
-    match answer {
-        Decoded::Accepted(count, stored) => Decoded::Accepted(count, stored),
-        Decoded::Refused(number, place, second) => {
-            store::clear(records);
-            store::clear(entries);
-            Decoded::Refused(number, place, second)
-        }
-    }
+    let decoded = fill(code, pool, records, entries)?;
+    let sorted = SortedRecords {
+        records: &*records,
+        count: decoded.instructions,
+    };
+    jumps::check_jumps(sorted, &*entries)?;
+    Ok(decoded)
 }
 
 // The entry. Accepted: every instruction has its record in order, every switch its entries, and the words past them are as
 // they were. Refused: every word of both stores is zero.
-pub fn decode(code: &[u8], pool: &[u8], records: &mut [u32], entries: &mut [u32]) -> Decoded
+pub fn decode(
+    code: &[u8],
+    pool: &[u8],
+    records: &mut [u32],
+    entries: &mut [u32],
+) -> Result<Decoded, Failure>
     ensures answers { result ≡ decoding code.now pool.now (record_room records.old) (entry_room entries.old) }
     ensures stores_records { records.new ≡ records_after code.now pool.now records.old entries.old }
     ensures stores_entries { entries.new ≡ entries_after code.now pool.now records.old entries.old }
 {
     let answer = decide(code, pool, records, entries);
-    settled(records, entries, answer)
+    if answer.is_err() {
+        store::clear(records);
+        store::clear(entries);
+    }
+    answer
 }

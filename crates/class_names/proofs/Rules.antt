@@ -15,7 +15,8 @@ use Rattle.laws.proofs.Bools.{so_not}
 use Rattle.laws.proofs.Bytes.{one_of_lem}
 use Rattle.names.specs.Rules.{Joined}
 use Rattle.names.proofs.Joined.{joined_prop}
-use Rattle.class_names.specs.declared.Checked.TheVariants as checked
+use Rattle.std.specs.Prelude.{Result, Ok, Err}
+use Rattle.refusals.specs.declared.Refusal.{Refusal}
 use Rattle.class_names.specs.declared.NameEnd.{NameEnd}
 use Rattle.class_names.specs.declared.NameEnd.TheVariants as name_end
 use Rattle.class_names.specs.Names.{is_separator, is_barred, name_from, alone_of, class_name, ends_in_segment, is_named_by}
@@ -63,10 +64,10 @@ record Closed (started : Bool) (at : ℕ) (s : List ℕ) (e : ℕ) : Type 0 wher
   split : s ≡ name ++ byte ";" ∷ rest
   place : e ≡ at + length name
 
-Reached : Bool → ℕ → List ℕ → NameEnd → Type 0
-Reached started at s (name_end.Semicolon e) = Closed started at s e
-Reached started at s (name_end.TextEnd p) = Left LoneClassName started s
-Reached started at s (name_end.Refused n p) = Unit {0}
+Reached : Bool → ℕ → List ℕ → Result NameEnd (Refusal ℕ) → Type 0
+Reached started at s (Ok (name_end.Semicolon e)) = Closed started at s e
+Reached started at s (Ok (name_end.TextEnd p)) = Left LoneClassName started s
+Reached started at s (Err x) = Unit {0}
 
 module _ (at b : ℕ) (s : List ℕ) where
   closed_more : (before started : Bool) (e : ℕ) → ((n : List ℕ) → Left ClassName started n → Left ClassName before (b ∷ n)) → Closed started (at + 1) s e → Closed before at (b ∷ s) e
@@ -74,7 +75,7 @@ module _ (at b : ℕ) (s : List ℕ) where
       record { name = b ∷ c.name; rest = c.rest; rule = rule c.name c.rule; split = ap (λ (l : List ℕ). b ∷ l) c.split; place = c.place ∙ omega arith }
 
   -- a byte of a segment goes into the segment
-  byte_first : (started : Bool) → is_separator b ≡ false → is_barred b ≡ false → (r : NameEnd) → Reached true (at + 1) s r → Reached started at (b ∷ s) r
+  byte_first : (started : Bool) → is_separator b ≡ false → is_barred b ≡ false → (r : Result NameEnd (Refusal ℕ)) → Reached true (at + 1) s r → Reached started at (b ∷ s) r
   unfolding Reached
   byte_first started sep bar r = go r
     where
@@ -82,28 +83,28 @@ module _ (at b : ℕ) (s : List ℕ) where
       into Rule false n f = unfold Left in f (b ∷ []) (one_byte b sep bar)
       into Rule true n f = unfold Left in λ w seg. subst Rule (append_assoc w (b ∷ []) n) (f (w ++ b ∷ []) (byte_more b sep bar seg))
 
-      go : (r : NameEnd) → Reached true (at + 1) s r → Reached started at (b ∷ s) r
-      go (name_end.Semicolon e) c = closed_more started true e (into ClassName started) c
-      go (name_end.TextEnd p) c = into LoneClassName started s c
-      go (name_end.Refused n p) c = tt
+      go : (r : Result NameEnd (Refusal ℕ)) → Reached true (at + 1) s r → Reached started at (b ∷ s) r
+      go (Ok (name_end.Semicolon e)) c = closed_more started true e (into ClassName started) c
+      go (Ok (name_end.TextEnd p)) c = into LoneClassName started s c
+      go (Err x) c = tt
 
   -- a / after a segment begins the next
-  slash_first : b ≡ byte "/" → (r : NameEnd) → Reached false (at + 1) s r → Reached true at (b ∷ s) r
+  slash_first : b ≡ byte "/" → (r : Result NameEnd (Refusal ℕ)) → Reached false (at + 1) s r → Reached true at (b ∷ s) r
   unfolding Reached Left
-  slash_first e (name_end.Semicolon p) c = closed_more true false p (λ n rule w seg. Joined.more seg rule (ap (λ (x : ℕ). w ++ x ∷ n) e)) c
-  slash_first e (name_end.TextEnd p) c = λ w seg. lone w seg c
+  slash_first e (Ok (name_end.Semicolon p)) c = closed_more true false p (λ n rule w seg. Joined.more seg rule (ap (λ (x : ℕ). w ++ x ∷ n) e)) c
+  slash_first e (Ok (name_end.TextEnd p)) c = λ w seg. lone w seg c
     where
       lone : (w : List ℕ) → Segment w → LoneClassName s → LoneClassName (w ++ b ∷ s)
       lone w seg (LoneClassName.closed c) = LoneClassName.closed (Joined.more seg c (ap (λ (x : ℕ). w ++ x ∷ s) e))
       lone w seg (LoneClassName.empty q) = LoneClassName.trailing (Joined.last seg) (rw (e, q))
       lone w seg (LoneClassName.trailing {t} c q) =
           LoneClassName.trailing (Joined.more seg c refl) (rw (e, q) (sym (append_assoc w (byte "/" ∷ t) (byte "/" ∷ []))))
-  slash_first e (name_end.Refused n p) c = tt
+  slash_first e (Err x) c = tt
 
 slash : (b : ℕ) → is_separator b ≡ true → (b ≡ byte ";" → ⊥) → b ≡ byte "/"
 slash b p n = ⊎_elim (λ e. e) (λ m. absurd (n (Memᴰ.eq_of_singleton m))) (Memᴰ.cases_cons ((one_of_lem (ascii "/;") b).0 p))
 
-clash : {n p : ℕ} → checked.Refused n p ≡ checked.Accepted → ⊥
+clash : {r : Refusal ℕ} {u : Unit {0}} → ◌≡◌ {A = Result (Unit {0}) (Refusal ℕ)} (Err r) (Ok u) → ⊥
 clash h = let z : ◌≡◌ {A = ℕ} 0 1 = cc in omega arith
 
 reached : (started : Bool) (at : ℕ) (s : List ℕ) → Reached started at s (name_from started at s)
@@ -112,7 +113,7 @@ reached false at [] = LoneClassName.empty refl
 reached true at [] = λ w seg. LoneClassName.closed (Joined.last (subst Segment (sym (append-nil w)) seg))
 reached started at (b ∷ s) = go started (reached true (at + 1) s) (reached false (at + 1) s) (is_separator b) refl (eqb b (byte ";")) refl (is_barred b) refl
   where
-    to : (t : Bool) {r : NameEnd} → name_from t at (b ∷ s) ≡ r → Reached t at (b ∷ s) r → Reached t at (b ∷ s) (name_from t at (b ∷ s))
+    to : (t : Bool) {r : Result NameEnd (Refusal ℕ)} → name_from t at (b ∷ s) ≡ r → Reached t at (b ∷ s) r → Reached t at (b ∷ s) (name_from t at (b ∷ s))
     to t e h = subst (Reached t at (b ∷ s)) (sym e) h
 
     go :
@@ -152,18 +153,18 @@ class_run (Joined.more {s = n} {w} {t} seg c e) at s =
 pub ends_exactly : EndsExactly
 ends_exactly at s e = (to, from)
   where
-    to : name_from false at s ≡ name_end.Semicolon e → Begins at s e
+    to : name_from false at s ≡ Ok (name_end.Semicolon e) → Begins at s e
     to h =
         let c : Closed false at s e = unfold Reached in subst (Reached false at s) h (reached false at s) in
         record { name = c.name; rest = c.rest; rule = unfold Left in c.rule; split = c.split; place = c.place }
 
-    from : Begins at s e → name_from false at s ≡ name_end.Semicolon e
+    from : Begins at s e → name_from false at s ≡ Ok (name_end.Semicolon e)
     from b =
         rw (b.split, b.place)
         (class_run b.rule at (byte ";" ∷ b.rest) ∙ semicolon true (at + length b.name) (byte ";") b.rest refl refl refl)
 
 -- the ; lies in the text
-pub ends_in : (t : List ℕ) (start e : ℕ) → start ≤ length t → name_from false start (drop start t) ≡ name_end.Semicolon e → (start ≤ e) × (e < length t)
+pub ends_in : (t : List ℕ) (start e : ℕ) → start ≤ length t → name_from false start (drop start t) ≡ Ok (name_end.Semicolon e) → (start ≤ e) × (e < length t)
 ends_in t start e h q =
     let b = (ends_exactly start (drop start t) e).0 q in
     let long : length t - start ≡ length b.name + suc (length b.rest) = sym (length-drop start t) ∙ ap length b.split ∙ length-append b.name (byte ";" ∷ b.rest) in
@@ -172,13 +173,13 @@ ends_in t start e h q =
 pub one_class_name : OneClassName
 one_class_name s = joined_prop barred_bytes (Memᴰ.head refl)
 
-alone_ended : (s : List ℕ) (r : NameEnd) → alone_of r ≡ checked.Accepted → Reached false 0 s r → LoneClassName s
+alone_ended : (s : List ℕ) (r : Result NameEnd (Refusal ℕ)) → alone_of r ≡ Ok tt → Reached false 0 s r → LoneClassName s
 unfolding alone_of Reached Left
-alone_ended s (name_end.Semicolon e) h c = absurd (clash h)
-alone_ended s (name_end.TextEnd e) h c = c
-alone_ended s (name_end.Refused n p) h c = absurd (clash h)
+alone_ended s (Ok (name_end.Semicolon e)) h c = absurd (clash h)
+alone_ended s (Ok (name_end.TextEnd e)) h c = c
+alone_ended s (Err x) h c = absurd (clash h)
 
-alone_run : {s : List ℕ} → LoneClassName s → (p : ℕ) × (name_from false 0 s ≡ name_end.TextEnd p)
+alone_run : {s : List ℕ} → LoneClassName s → (p : ℕ) × (name_from false 0 s ≡ Ok (name_end.TextEnd p))
 unfolding name_from
 alone_run {s} (LoneClassName.closed c) = (_, rw append-nil at (class_run c 0 []))
 alone_run {s} (LoneClassName.empty e) = (_, ap (name_from false 0) e)
@@ -187,9 +188,9 @@ alone_run {s} (LoneClassName.trailing {t} c e) =
 
 pub alone_exactly : AloneExactly
 unfolding alone_of
-alone_exactly s = (λ h. to h (leb (length s) text_limit) refl, λ h. let run = alone_run h.1 in sym (alone s (name_end.TextEnd run.0) h.0 (sym run.1)))
+alone_exactly s = (λ h. to h (leb (length s) text_limit) refl, λ h. let run = alone_run h.1 in sym (alone s (Ok (name_end.TextEnd run.0)) h.0 (sym run.1)))
   where
-    to : class_name s ≡ checked.Accepted → (short : Bool) → leb (length s) text_limit ≡ short → (length s ≤ text_limit) × LoneClassName s
+    to : class_name s ≡ Ok tt → (short : Bool) → leb (length s) text_limit ≡ short → (length s ≤ text_limit) × LoneClassName s
     to h true e =
         let short = leb-true (length s) text_limit e in
         (short, alone_ended s (name_from false 0 s) (alone s _ short refl ∙ h) (reached false 0 s))
@@ -236,11 +237,11 @@ lone_ended {s} l h = go l
         let slash_last : last_byte s ≡ byte "/" = ap last_byte e ∙ last_append t (byte "/" ∷ []) (omega arith) in
         absurd (false≢true (sym (not-true _ both.1) ∙ eq-eqb (last_byte s) (byte "/") slash_last))
 
-named_ended : (s : List ℕ) (r : NameEnd) → So (is_named_by s r) → Reached false 0 s r → ClassName s
+named_ended : (s : List ℕ) (r : Result NameEnd (Refusal ℕ)) → So (is_named_by s r) → Reached false 0 s r → ClassName s
 unfolding is_named_by Reached Left
-named_ended s (name_end.Semicolon e) h c = absurd (false≢true h)
-named_ended s (name_end.TextEnd e) h c = lone_ended c h
-named_ended s (name_end.Refused n p) h c = absurd (false≢true h)
+named_ended s (Ok (name_end.Semicolon e)) h c = absurd (false≢true h)
+named_ended s (Ok (name_end.TextEnd e)) h c = lone_ended c h
+named_ended s (Err x) h c = absurd (false≢true h)
 
 pub class_name_exactly : ClassNameExactly
 unfolding is_named_by

@@ -1,8 +1,7 @@
 -- The readings of class names and their rule agree. The proofs are in proofs/Rules.antt.
-use Rattle.std.specs.Prelude.{ℕ, ◌+◌, ◌≤◌, false, List, ◌∷◌, ◌++◌, ◌↔◌, ◌≡◌, length}
+use Rattle.std.specs.Prelude.{ℕ, ◌+◌, ◌≤◌, false, List, ◌∷◌, ◌++◌, ◌↔◌, ◌≡◌, length, Ok}
 use Rattle.std.proofs.Math.Bool.{So}
 use Rattle.laws.specs.Bytes.{byte, text_limit}
-use Rattle.class_names.specs.declared.Checked.TheVariants as checked
 use Rattle.class_names.specs.declared.NameEnd.TheVariants as name_end
 use Rattle.class_names.specs.Names.{name_from, class_name, is_class_name}
 use Rattle.class_names.specs.Rules.{ClassName, LoneClassName}
@@ -17,11 +16,11 @@ pub record Begins (at : ℕ) (s : List ℕ) (e : ℕ) : Type 0 where
 
 -- proved as `ends_exactly`
 abbrev pub EndsExactly : Type 0
-EndsExactly = (at : ℕ) (s : List ℕ) (e : ℕ) → (name_from false at s ≡ name_end.Semicolon e) ↔ Begins at s e
+EndsExactly = (at : ℕ) (s : List ℕ) (e : ℕ) → (name_from false at s ≡ Ok (name_end.Semicolon e)) ↔ Begins at s e
 
 -- proved as `alone_exactly`
 abbrev pub AloneExactly : Type 0
-AloneExactly = (s : List ℕ) → (class_name s ≡ checked.Accepted) ↔ ((length s ≤ text_limit) × LoneClassName s)
+AloneExactly = (s : List ℕ) → (class_name s ≡ Ok tt) ↔ ((length s ≤ text_limit) × LoneClassName s)
 
 -- proved as `class_name_exactly`
 abbrev pub ClassNameExactly : Type 0

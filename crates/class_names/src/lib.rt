@@ -5,94 +5,76 @@
 ghost use Rattle.std.specs.Prelude.{false, ◌≡◌, drop};
 ghost use Rattle.class_names.specs.Names.{is_separator, is_barred, name_from, class_name, is_class_name};
 
-use laws::TEXT_LIMIT;
+use refusals::{Reason, Refusal};
+use texts::Text;
 
-// Document 01's refusals that a class name can get.
-pub const OVER_THE_LIMIT: u32 = 21;
-
-pub const EMPTY_SEGMENT: u32 = 25;
-
-pub const BARRED_BYTE: u32 = 26;
-
-pub const LONE_SEMICOLON: u32 = 28;
-
-// What the reading of a class name alone finds.
-#[derive(Clone, Copy)]
-pub enum Checked {
-    Accepted,
-    Refused(u32, usize),
-}
-
-// What a run of segments ends at: the `;` after one, the end of the text, or a refusal.
+// What a run of segments ends at: the `;` after one, or the end of the text.
 #[derive(Clone, Copy)]
 pub enum NameEnd {
     Semicolon(usize),
     TextEnd(usize),
-    Refused(u32, usize),
 }
 
 fn is_separator(b: u8) -> bool
     ensures { result ≡ is_separator b }
 {
-    (b == b'/') | (b == b';')
+    matches!(b, b'/' | b';')
 }
 
 fn is_barred(b: u8) -> bool
     ensures { result ≡ is_barred b }
 {
-    (b == b'.') | (b == b'[') | (b == b'<') | (b == b'>')
+    matches!(b, b'.' | b'[' | b'<' | b'>')
 }
 
 // The segments from an offset on. The one place that knows the rule of a class name.
-pub fn name_end(text: &[u8], start: usize) -> NameEnd
+#[tactic(auto, using(crate::proofs::Laws::empty_there, crate::proofs::Laws::semicolon_there, crate::proofs::Laws::slash_there, crate::proofs::Laws::barred_there, crate::proofs::Laws::name_byte_there, crate::proofs::Laws::end_there))]
+pub fn name_end(text: &[u8], start: usize) -> Result<NameEnd, Refusal<usize>>
     ensures { result ≡ name_from false start (drop start text.now) }
 {
     // Whether the segment that is being read has a byte yet.
     let mut started = false;
-    let mut at = start;
-    while at < text.len() {
+    let end = text.len().max(start);
+    for at in start..end {
         let b = text[at];
         if is_separator(b) {
             if !started {
-                return NameEnd::Refused(EMPTY_SEGMENT, at);
+                return Err(Reason::EmptySegment.at(at));
             }
             if b == b';' {
-                return NameEnd::Semicolon(at);
+                return Ok(NameEnd::Semicolon(at));
             }
             started = false;
-            at += 1;
             continue;
         }
         if is_barred(b) {
-            return NameEnd::Refused(BARRED_BYTE, at);
+            return Err(Reason::BarredByte.at(at));
         }
         started = true;
-        at += 1;
     }
-    NameEnd::TextEnd(at)
+    Ok(NameEnd::TextEnd(end))
 }
 
 // A class name that stands alone, as in the constant pool: the last segment may be empty, and no `;` may stand in it.
-pub fn class_name(text: &[u8]) -> Checked
+#[tactic(auto, using(crate::proofs::Laws::over_alone, crate::proofs::Laws::end_alone))]
+pub fn class_name(text: &[u8]) -> Result<(), Refusal<usize>>
     ensures { result ≡ class_name text.now }
 {
-    if TEXT_LIMIT < text.len() {
-        return Checked::Refused(OVER_THE_LIMIT, 0);
-    }
-    match name_end(text, 0) {
-        NameEnd::Semicolon(place) => Checked::Refused(LONE_SEMICOLON, place),
-        NameEnd::TextEnd(_) => Checked::Accepted,
-        NameEnd::Refused(number, place) => Checked::Refused(number, place),
+    let text = Text::new(text)?;
+    match name_end(text.bytes, 0)? {
+        NameEnd::Semicolon(place) => Err(Reason::LoneSemicolon.at(place)),
+        NameEnd::TextEnd(_) => Ok(()),
     }
 }
 
 // A class name without the `;` that ends it in a descriptor.
+#[tactic(auto, using(crate::proofs::Laws::semicolon_no_name, crate::proofs::Laws::refused_no_name, crate::proofs::Laws::end_name))]
 pub fn is_class_name(name: &[u8]) -> bool
     ensures { result ≡ is_class_name name.now }
 {
     match name_end(name, 0) {
-        NameEnd::Semicolon(_) => false,
-        NameEnd::TextEnd(_) => 0 < name.len() && name[name.len() - 1] != b'/',
-        NameEnd::Refused(_, _) => false,
+        Ok(NameEnd::TextEnd(_)) => name.last().is_some_and(|b| *b != b'/'),
+        Ok(NameEnd::Semicolon(_)) => false,
+        Err(_) => false,
     }
 }

@@ -11,6 +11,8 @@ use mathlib.Core.HLevel.{hedberg}
 use borrow.Author.Tests.{eqb-true, eqb-false}
 use lib.Dec.{eqb}
 use lib.ListN.{length, drop, length-append, length-drop}
+use Rattle.std.specs.Prelude.{Result, Ok, Err}
+use Rattle.refusals.specs.declared.Refusal.{Refusal}
 use Rattle.laws.specs.Bytes.{byte, In}
 use Rattle.names.specs.Rules.{Joined}
 use Rattle.names.proofs.Joined.{split_once, text_set}
@@ -20,14 +22,10 @@ use Rattle.class_names.specs.Names.{name_from}
 use Rattle.class_names.specs.Rules.{barred_bytes, ClassName}
 use Rattle.class_names.proofs.Rules.{ends_exactly, one_class_name}
 use Rattle.descriptors.specs.declared.FieldDescriptor.{FieldDescriptor}
-use Rattle.descriptors.specs.declared.Field.TheVariants as field
-use Rattle.descriptors.specs.Texts.{max_dimensions, base, object, is_base_type, object_of, object_from, type_from, field_from}
+use Rattle.descriptors.specs.Texts.{max_dimensions, object, is_base_type, object_of, object_from, type_from, field_from}
 use Rattle.descriptors.specs.Grammar.{FieldType, dimensions, parts_at}
 use Rattle.descriptors.specs.Theorems.{OneDerivation, OneBeginning, BeginsField, FieldExactly}
-use Rattle.descriptors.proofs.Laws.{object_letter, base_letter, no_letter, type_first, bracket_256, bracket_first, type_due}
-
-pub clash {ℓ} : {A : Type ℓ} {k p : ℕ} {f : FieldDescriptor} {n : ℕ} → field.Refused k p ≡ field.Parsed f n → A
-clash h = absurd (let z : ◌≡◌ {A = ℕ} 0 1 = cc in omega arith)
+use Rattle.descriptors.proofs.Laws.{clash, same_read, same_place, object_letter, base_letter, no_letter, type_first, bracket_256, bracket_first, type_due}
 
 -- the letter of a base type is neither L nor [
 base_not : (b c : ℕ) → is_base_type b ≡ true → is_base_type c ≡ false → b ≡ c → ⊥
@@ -35,15 +33,15 @@ base_not b c p n e = false≢true (sym n ∙ sym (ap is_base_type e) ∙ p)
 
 -- From a reading to a derivation.
 module _ (d at b : ℕ) (s : List ℕ) (f : FieldDescriptor) (next : ℕ) (few : d ≤ max_dimensions) where
-  object_begins : b ≡ byte "L" → object_from d (at + 1) s ≡ field.Parsed f next → BeginsField d at (b ∷ s) f next
+  object_begins : b ≡ byte "L" → object_from d (at + 1) s ≡ Ok (f, next) → BeginsField d at (b ∷ s) f next
   unfolding object_of dimensions parts_at
   object_begins l h = go (name_from false (at + 1) s) refl h
     where
-      go : (r : NameEnd) → name_from false (at + 1) s ≡ r → object_of d (at + 1) r ≡ field.Parsed f next → BeginsField d at (b ∷ s) f next
-      go (name_end.Semicolon e) q h =
+      go : (r : Result NameEnd (Refusal ℕ)) → name_from false (at + 1) s ≡ r → object_of d (at + 1) r ≡ Ok (f, next) → BeginsField d at (b ∷ s) f next
+      go (Ok (name_end.Semicolon e)) q h =
           let n = (ends_exactly (at + 1) s e).0 q in
-          let parts : object d (at + 1) (e - (at + 1)) ≡ f = cc in
-          let place : e + 1 ≡ next = cc in
+          let parts = same_read h in
+          let place = same_place h in
           let long : e - (at + 1) ≡ length n.name = omega (arith, n.place) in
           record {
             text = b ∷ n.name ++ byte ";" ∷ [];
@@ -54,29 +52,29 @@ module _ (d at b : ℕ) (s : List ℕ) (f : FieldDescriptor) (next : ℕ) (few :
             parts = sym parts ∙ ap (object d (at + 1)) long;
             place = rw length-append (omega (arith, n.place));
           }
-      go (name_end.TextEnd e) q h = clash h
-      go (name_end.Refused k p) q h = clash h
+      go (Ok (name_end.TextEnd e)) q h = clash h
+      go (Err r) q h = clash h
 
-  type_begins : type_from d at b s ≡ field.Parsed f next → BeginsField d at (b ∷ s) f next
+  type_begins : type_from d at b s ≡ Ok (f, next) → BeginsField d at (b ∷ s) f next
   unfolding dimensions parts_at
   type_begins h = go (eqb b (byte "L")) refl (is_base_type b) refl
     where
       go : (l : Bool) → eqb b (byte "L") ≡ l → (t : Bool) → is_base_type b ≡ t → BeginsField d at (b ∷ s) f next
       go true l t q = object_begins (eqb-true _ _ l) (sym (object_letter d at b s (eqb-true _ _ l)) ∙ h)
       go false l true q =
-          let is : field.Parsed (base d b) (at + 1) ≡ field.Parsed f next = sym (base_letter d at b s (eqb-false _ _ l) q) ∙ h in
-          let parts : base d b ≡ f = cc in
-          let place : at + 1 ≡ next = cc in
+          let is = sym (base_letter d at b s (eqb-false _ _ l) q) ∙ h in
+          let parts = same_read is in
+          let place = same_place is in
           record { text = b ∷ []; rest = s; tree = FieldType.base_type q; split = refl; few = omega arith; parts = sym parts; place = sym place }
       go false l false q = clash (sym (no_letter d at b s (eqb-false _ _ l) q) ∙ h)
 
-pub field_begins : (d at : ℕ) (s : List ℕ) (f : FieldDescriptor) (next : ℕ) → d ≤ max_dimensions → field_from d at s ≡ field.Parsed f next → BeginsField d at s f next
+pub field_begins : (d at : ℕ) (s : List ℕ) (f : FieldDescriptor) (next : ℕ) → d ≤ max_dimensions → field_from d at s ≡ Ok (f, next) → BeginsField d at s f next
 unfolding dimensions parts_at
 field_begins d at [] f next few h = clash (sym (type_due d at) ∙ h)
 field_begins d at (b ∷ s) f next few h = go (field_begins (d + 1) (at + 1) s f next) (eqb b (byte "[")) refl (eqb d max_dimensions) refl
   where
     go :
-        (d + 1 ≤ max_dimensions → field_from (d + 1) (at + 1) s ≡ field.Parsed f next → BeginsField (d + 1) (at + 1) s f next)
+        (d + 1 ≤ max_dimensions → field_from (d + 1) (at + 1) s ≡ Ok (f, next) → BeginsField (d + 1) (at + 1) s f next)
         → (l : Bool) → eqb b (byte "[") ≡ l → (m : Bool) → eqb d max_dimensions ≡ m → BeginsField d at (b ∷ s) f next
     go more false l m q = type_begins d at b s f next few (sym (type_first d at b s (eqb-false _ _ l)) ∙ h)
     go more true l true q = clash (sym (bracket_256 d at b s (eqb-true _ _ l) (eqb-true _ _ q)) ∙ h)
@@ -114,13 +112,13 @@ module _ {d at : ℕ} {s : List ℕ} {f : FieldDescriptor} {next : ℕ} (b : Beg
       nothing [] h = refl
       nothing (x ∷ l) h = absurd (omega arith)
 
-pub field_ends_in : (t : List ℕ) (at : ℕ) (f : FieldDescriptor) (next : ℕ) → at ≤ length t → field_from 0 at (drop at t) ≡ field.Parsed f next → (at < next) × (next ≤ length t)
+pub field_ends_in : (t : List ℕ) (at : ℕ) (f : FieldDescriptor) (next : ℕ) → at ≤ length t → field_from 0 at (drop at t) ≡ Ok (f, next) → (at < next) × (next ≤ length t)
 field_ends_in t at f next h q =
     let b = field_begins 0 at (drop at t) f next (omega arith) q in
     omega (arith, b.place, some_text b.tree, length-drop at t, begins_within b)
 
 -- From a derivation to a reading.
-pub field_run : (d at : ℕ) {text : List ℕ} (tree : FieldType text) (rest : List ℕ) → d + dimensions tree ≤ max_dimensions → field_from d at (text ++ rest) ≡ field.Parsed (parts_at d at tree) (at + length text)
+pub field_run : (d at : ℕ) {text : List ℕ} (tree : FieldType text) (rest : List ℕ) → d + dimensions tree ≤ max_dimensions → field_from d at (text ++ rest) ≡ Ok (parts_at d at tree, at + length text)
 unfolding dimensions parts_at object_of
 field_run d at (FieldType.base_type {b} p) rest few =
     type_first d at b rest (base_not b (byte "[") p refl) ∙ base_letter d at b rest (base_not b (byte "L") p refl) p
@@ -128,11 +126,11 @@ field_run d at (FieldType.object_type {l} {s} name e c q) rest few =
     type_first d at l (s ++ rest) (λ x. omega arith)
     ∙ object_letter d at l (s ++ rest) e
     ∙ ap (object_of d (at + 1)) ((ends_exactly (at + 1) (s ++ rest) (at + 1 + length name)).1 (record { name = name; rest = rest; rule = c; split = rw q (append_assoc name (byte ";" ∷ []) rest); place = refl }))
-    ∙ ap₂ (λ (n p : ℕ). field.Parsed (object d (at + 1) n) p) (omega arith) (rw (q, length-append) (omega arith))
+    ∙ ap₂ (λ (n p : ℕ). Ok (object d (at + 1) n, p)) (omega arith) (rw (q, length-append) (omega arith))
 field_run d at (FieldType.array_type {a} {s} e t) rest few =
     bracket_first d at a (s ++ rest) e (λ x. omega arith)
     ∙ field_run (d + 1) (at + 1) t rest (omega arith)
-    ∙ ap (field.Parsed (parts_at (d + 1) (at + 1) t)) (omega arith)
+    ∙ ap (λ (n : ℕ). Ok (parts_at (d + 1) (at + 1) t, n)) (omega arith)
 
 pub field_exactly : FieldExactly
 field_exactly d at s f next few = (field_begins d at s f next few, λ b. rw (b.split, b.parts, b.place) (field_run d at b.tree b.rest b.few))

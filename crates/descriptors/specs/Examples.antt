@@ -1,79 +1,79 @@
 -- Worked descriptors: the text and the answer. Proved in proofs/Examples.antt.
-use Rattle.std.specs.Prelude.{ℕ, [], ◌∷◌, ◌++◌, replicate}
+use Rattle.std.specs.Prelude.{ℕ, [], ◌∷◌, ◌++◌, replicate, Some, None, Ok, Err}
 use Prim.Native.String.{String}
+use Rattle.refusals.specs.declared.Reason.TheVariants as reason
+use Rattle.refusals.specs.Numbers.{refused}
 use Rattle.laws.specs.Bytes.{byte, ascii}
 use Rattle.laws.specs.Examples.{Computes}
-use Rattle.descriptors.specs.declared.Field.TheVariants as field
-use Rattle.descriptors.specs.declared.Array.TheVariants as array
 use Rattle.descriptors.specs.Texts.{base, object, void, field_prefix, field_text, return_prefix, return_text, array_text}
 
 -- proved as `fields_compute`
 abbrev pub FieldsCompute : Type 0
 FieldsCompute =
     Computes (λ (s : String). field_text (ascii s)) (
-    ("I", field.Parsed (base 0 (byte "I")) 1)
-    ∷ ("[[Z", field.Parsed (base 2 (byte "Z")) 3)
-    ∷ ("[[La/b;", field.Parsed (object 2 3 3) 7)
-    ∷ ("L(;", field.Parsed (object 0 1 1) 3)
-    ∷ ("", field.Refused 22 0)
-    ∷ ("[", field.Refused 22 1)
-    ∷ ("V", field.Refused 23 0)
-    ∷ ("L;", field.Refused 25 1)
-    ∷ ("La/;", field.Refused 25 3)
-    ∷ ("La.b;", field.Refused 26 2)
-    ∷ ("L[a;", field.Refused 26 1)
-    ∷ ("La", field.Refused 27 2)
-    ∷ ("II", field.Refused 31 1)
-    ∷ ("La;;", field.Refused 31 3)
+    ("I", Ok (base 0 (byte "I"), 1))
+    ∷ ("[[Z", Ok (base 2 (byte "Z"), 3))
+    ∷ ("[[La/b;", Ok (object 2 3 3, 7))
+    ∷ ("L(;", Ok (object 0 1 1, 3))
+    ∷ ("", Err (refused reason.TypeDue 0))
+    ∷ ("[", Err (refused reason.TypeDue 1))
+    ∷ ("V", Err (refused reason.NoSuchType 0))
+    ∷ ("L;", Err (refused reason.EmptySegment 1))
+    ∷ ("La/;", Err (refused reason.EmptySegment 3))
+    ∷ ("La.b;", Err (refused reason.BarredByte 2))
+    ∷ ("L[a;", Err (refused reason.BarredByte 1))
+    ∷ ("La", Err (refused reason.NameNotEnded 2))
+    ∷ ("II", Err (refused reason.LeftOver 1))
+    ∷ ("La;;", Err (refused reason.LeftOver 3))
     ∷ [])
 
 -- proved as `dimensions_compute`: so many [ and then I
 abbrev pub DimensionsCompute : Type 0
 DimensionsCompute =
     Computes (λ (n : ℕ). field_text (replicate n (byte "[") ++ ascii "I")) (
-    (255, field.Parsed (base 255 (byte "I")) 256)
-    ∷ (256, field.Refused 24 255)
+    (255, Ok (base 255 (byte "I"), 256))
+    ∷ (256, Err (refused reason.Dimension256 255))
     ∷ [])
 
 -- proved as `prefixes_compute`
 abbrev pub PrefixesCompute : Type 0
 PrefixesCompute =
     Computes (λ (s : String). field_prefix (ascii s)) (
-    ("II", field.Parsed (base 0 (byte "I")) 1)
-    ∷ ("La;;", field.Parsed (object 0 1 1) 3)
-    ∷ ("V", field.Refused 23 0)
+    ("II", Ok (base 0 (byte "I"), 1))
+    ∷ ("La;;", Ok (object 0 1 1, 3))
+    ∷ ("V", Err (refused reason.NoSuchType 0))
     ∷ [])
 
 -- proved as `returns_compute`
 abbrev pub ReturnsCompute : Type 0
 ReturnsCompute =
     Computes (λ (s : String). return_text (ascii s)) (
-    ("V", field.Parsed void 1)
-    ∷ ("J", field.Parsed (base 0 (byte "J")) 1)
-    ∷ ("VV", field.Refused 23 0)
-    ∷ ("[V", field.Refused 23 1)
-    ∷ ("JV", field.Refused 31 1)
-    ∷ ("", field.Refused 22 0)
+    ("V", Ok (void, 1))
+    ∷ ("J", Ok (base 0 (byte "J"), 1))
+    ∷ ("VV", Err (refused reason.NoSuchType 0))
+    ∷ ("[V", Err (refused reason.NoSuchType 1))
+    ∷ ("JV", Err (refused reason.LeftOver 1))
+    ∷ ("", Err (refused reason.TypeDue 0))
     ∷ [])
 
 -- proved as `return_prefixes_compute`
 abbrev pub ReturnPrefixesCompute : Type 0
 ReturnPrefixesCompute =
     Computes (λ (s : String). return_prefix (ascii s)) (
-    ("V", field.Parsed void 1)
-    ∷ ("VV", field.Refused 23 0)
-    ∷ ("JV", field.Parsed (base 0 (byte "J")) 1)
+    ("V", Ok (void, 1))
+    ∷ ("VV", Err (refused reason.NoSuchType 0))
+    ∷ ("JV", Ok (base 0 (byte "J"), 1))
     ∷ [])
 
 -- proved as `arrays_compute`
 abbrev pub ArraysCompute : Type 0
 ArraysCompute =
     Computes (λ (s : String). array_text (ascii s)) (
-    ("[I", array.Parsed (base 1 (byte "I")))
-    ∷ ("[La;", array.Parsed (object 1 2 1))
-    ∷ ("", array.NotArray)
-    ∷ ("I", array.NotArray)
-    ∷ ("X", array.NotArray)
-    ∷ ("[II", array.Refused 31 2)
-    ∷ ("[", array.Refused 22 1)
+    ("[I", Ok (Some (base 1 (byte "I"))))
+    ∷ ("[La;", Ok (Some (object 1 2 1)))
+    ∷ ("", Ok None)
+    ∷ ("I", Ok None)
+    ∷ ("X", Ok None)
+    ∷ ("[II", Err (refused reason.LeftOver 2))
+    ∷ ("[", Err (refused reason.TypeDue 1))
     ∷ [])

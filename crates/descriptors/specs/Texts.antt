@@ -1,16 +1,22 @@
--- The readings of document 01, "Texts": field, return and array descriptors, with the numbers and places
+-- The readings of document 01, "Texts": field, return and array descriptors, with the reasons and places
 -- of their refusals. In each, `at` is the place in the whole text of the first byte of what is left.
 -- specs/Grammar.antt has the grammar of JVMS 4.3.2 itself, and specs/Theorems.antt says that the two agree.
-use Rattle.std.specs.Prelude.{ℕ, ◌+◌, ◌-◌, Bool, true, false, ◌&&◌, List, [], ◌∷◌, eqb, ltb, length}
+use Rattle.std.specs.Prelude.{ℕ, ◌+◌, ◌-◌, Bool, true, false, ◌&&◌, List, [], ◌∷◌, eqb, ltb, length, Option, Some, None, Result, Ok, Err, is_ok}
+use Rattle.refusals.specs.declared.Reason.TheVariants as reason
+use Rattle.refusals.specs.declared.Refusal.{Refusal}
+use Rattle.refusals.specs.Numbers.{refused}
 use Rattle.laws.specs.Bytes.{byte, ascii, begins_with, one_of, same_text, within_limit}
 use Rattle.descriptors.specs.declared.FieldDescriptor.{FieldDescriptor}
-use Rattle.descriptors.specs.declared.Field.{Field}
-use Rattle.descriptors.specs.declared.Field.TheVariants as field
-use Rattle.descriptors.specs.declared.Array.{Array}
-use Rattle.descriptors.specs.declared.Array.TheVariants as array
 use Rattle.class_names.specs.declared.NameEnd.{NameEnd}
 use Rattle.class_names.specs.declared.NameEnd.TheVariants as name_end
 use Rattle.class_names.specs.Names.{name_from}
+
+-- What a reading finds: what was read with the place after it, or a refusal.
+abbrev pub Parsed : Type 0 → Type 0
+Parsed T = Result (T × ℕ) (Refusal ℕ)
+
+abbrev pub Field : Type 0
+Field = Parsed FieldDescriptor
 
 -- Document 01: the limit of 255 dimensions, which JVMS 4.4.1 and 4.11 set too. In the code:
 -- `FieldDescriptor::MAX_DIMENSIONS`.
@@ -32,10 +38,10 @@ abbrev pub is_base_type : ℕ → Bool
 is_base_type b = one_of (ascii "BCDFIJSZ") b
 
 -- An object type after its L: a ; ends the name. 27: the text ends before
-unfoldable pub object_of : ℕ → ℕ → NameEnd → Field
-object_of d start (name_end.Semicolon e) = field.Parsed (object d start (e - start)) (e + 1)
-object_of d start (name_end.TextEnd e) = field.Refused 27 e
-object_of d start (name_end.Refused n p) = field.Refused n p
+unfoldable pub object_of : ℕ → ℕ → Result NameEnd (Refusal ℕ) → Field
+object_of d start (Ok (name_end.Semicolon e)) = Ok (object d start (e - start), e + 1)
+object_of d start (Ok (name_end.TextEnd e)) = Err (refused reason.NameNotEnded e)
+object_of d start (Err r) = Err r
 
 abbrev pub object_from : ℕ → ℕ → List ℕ → Field
 object_from d at s = object_of d at (name_from false at s)
@@ -45,16 +51,16 @@ unfoldable pub type_from : ℕ → ℕ → ℕ → List ℕ → Field
 type_from d at b s =
     elim (eqb b (byte "L")) [
       | true ↦ object_from d (at + 1) s
-      | false ↦ elim (is_base_type b) [ true ↦ field.Parsed (base d b) (at + 1) | false ↦ field.Refused 23 at ]
+      | false ↦ elim (is_base_type b) [ true ↦ Ok (base d b, at + 1) | false ↦ Err (refused reason.NoSuchType at) ]
     ]
 
 -- A field descriptor of which d dimensions have passed; what follows it is ignored.
 -- 22: the text ends where a type is due. 24: the 256th [
 unfoldable pub field_from : ℕ → ℕ → List ℕ → Field
-field_from d at [] = field.Refused 22 at
+field_from d at [] = Err (refused reason.TypeDue at)
 field_from d at (b ∷ s) =
     elim (eqb b (byte "[")) [
-      | true ↦ elim (eqb d max_dimensions) [ true ↦ field.Refused 24 at | false ↦ field_from (d + 1) (at + 1) s ]
+      | true ↦ elim (eqb d max_dimensions) [ true ↦ Err (refused reason.Dimension256 at) | false ↦ field_from (d + 1) (at + 1) s ]
       | false ↦ type_from d at b s
     ]
 
@@ -63,19 +69,19 @@ abbrev pub is_void : List ℕ → Bool
 is_void s = same_text s (ascii "V")
 
 unfoldable pub return_from : ℕ → List ℕ → Field
-return_from at s = elim (is_void s) [ true ↦ field.Parsed void (at + 1) | false ↦ field_from 0 at s ]
+return_from at s = elim (is_void s) [ true ↦ Ok (void, at + 1) | false ↦ field_from 0 at s ]
 
--- 31: bytes left over, of a text of n bytes
-unfoldable pub whole : ℕ → Field → Field
-whole n (field.Parsed f used) = elim (ltb used n) [ true ↦ field.Refused 31 used | false ↦ field.Parsed f used ]
-whole n (field.Refused k p) = field.Refused k p
+-- A reading that must use all of a text of n bytes. 31: bytes left over
+unfoldable pub whole : {T : Type 0} → ℕ → Parsed T → Parsed T
+whole n (Ok r) = elim (ltb r.1 n) [ true ↦ Err (refused reason.LeftOver r.1) | false ↦ Ok r ]
+whole n (Err r) = Err r
 
 -- The entries. 21: the text is over the limit
 unfoldable pub field_prefix : List ℕ → Field
-field_prefix s = elim (within_limit s) [ true ↦ field_from 0 0 s | false ↦ field.Refused 21 0 ]
+field_prefix s = elim (within_limit s) [ true ↦ field_from 0 0 s | false ↦ Err (refused reason.OverTheLimit 0) ]
 
 unfoldable pub return_prefix : List ℕ → Field
-return_prefix s = elim (within_limit s) [ true ↦ return_from 0 s | false ↦ field.Refused 21 0 ]
+return_prefix s = elim (within_limit s) [ true ↦ return_from 0 s | false ↦ Err (refused reason.OverTheLimit 0) ]
 
 abbrev pub field_text : List ℕ → Field
 field_text s = whole (length s) (field_prefix s)
@@ -84,27 +90,24 @@ abbrev pub return_text : List ℕ → Field
 return_text s = whole (length s) (return_prefix s)
 
 -- An array descriptor, whole; a text that does not start with [ is none
-unfoldable pub array_of : Field → Array
-array_of (field.Parsed f used) = array.Parsed f
-array_of (field.Refused n p) = array.Refused n p
+unfoldable pub array_of : Field → Result (Option FieldDescriptor) (Refusal ℕ)
+array_of (Ok f) = Ok (Some f.0)
+array_of (Err r) = Err r
 
-unfoldable pub array_text : List ℕ → Array
+unfoldable pub array_text : List ℕ → Result (Option FieldDescriptor) (Refusal ℕ)
 array_text s =
     elim (within_limit s) [
-      | true ↦ elim (begins_with (byte "[") s) [ true ↦ array_of (field_text s) | false ↦ array.NotArray ]
-      | false ↦ array.Refused 21 0
+      | true ↦ elim (begins_with (byte "[") s) [ true ↦ array_of (field_text s) | false ↦ Ok None ]
+      | false ↦ Err (refused reason.OverTheLimit 0)
     ]
 
 -- The yes/no checks
-abbrev pub is_accepted : Field → Bool
-is_accepted (field.Parsed f used) = true
-is_accepted (field.Refused n p) = false
 
 abbrev pub is_field_text : List ℕ → Bool
-is_field_text s = is_accepted (field_text s)
+is_field_text s = is_ok (field_text s)
 
 abbrev pub is_return_text : List ℕ → Bool
-is_return_text s = is_accepted (return_text s)
+is_return_text s = is_ok (return_text s)
 
 abbrev pub is_array_text : List ℕ → Bool
-is_array_text s = begins_with (byte "[") s && is_accepted (field_text s)
+is_array_text s = begins_with (byte "[") s && is_ok (field_text s)

@@ -3,26 +3,16 @@
 #![tactic(auto)]
 
 ghost use Rattle.std.specs.Prelude.{◌≡◌, ◌+◌, ◌≤◌, ◌<◌, length, get_or, drop};
-ghost use Rattle.laws.specs.Bytes.{begins_with, text_limit};
-ghost use Rattle.descriptors.specs.Texts.{is_base_type, is_void, is_accepted, base, void, object, object_from, type_from, field_from, return_from, whole, field_prefix, field_text, return_prefix, return_text, array_text, is_field_text, is_return_text, is_array_text};
+ghost use Rattle.laws.specs.Bytes.{begins_with};
+ghost use Rattle.descriptors.specs.Texts.{is_base_type, is_void, base, void, object, object_from, type_from, field_from, return_from, whole, field_prefix, field_text, return_prefix, return_text, array_text, is_field_text, is_return_text, is_array_text};
 
-use class_names::{NameEnd, OVER_THE_LIMIT};
-use laws::TEXT_LIMIT;
-
-// Document 01's refusals of a text.
-pub const TYPE_DUE: u32 = 22;
-
-pub const NO_SUCH_TYPE: u32 = 23;
-
-pub const DIMENSION_256: u32 = 24;
-
-pub const NAME_NOT_ENDED: u32 = 27;
-
-pub const LEFT_OVER: u32 = 31;
+use class_names::NameEnd;
+use refusals::{Reason, Refusal};
+use texts::Text;
 
 // The parts of a descriptor, four words: the letter is a byte, and start and length are those of the class name in the
 // text, 0 and 0 without one.
-#[derive(Clone, Copy)]
+#[derive(Clone, Copy, PartialEq, Eq)]
 pub struct FieldDescriptor {
     pub dimensions: u32,
     pub letter: u32,
@@ -62,135 +52,103 @@ impl FieldDescriptor {
     }
 }
 
-// What a reading finds: the parts and the bytes used, or a refusal's number and its place.
-#[derive(Clone, Copy)]
-pub enum Field {
-    Parsed(FieldDescriptor, usize),
-    Refused(u32, usize),
-}
+// What a reading finds: what was read with the bytes used, or a refusal.
+pub type Parsed<T> = Result<(T, usize), Refusal<usize>>;
 
-// What the reading of an array descriptor finds: the parts, that the text is none, or a refusal.
-#[derive(Clone, Copy)]
-pub enum Array {
-    Parsed(FieldDescriptor),
-    NotArray,
-    Refused(u32, usize),
-}
+pub type Field = Parsed<FieldDescriptor>;
 
-fn is_base_type(b: u8) -> bool
+pub fn is_base_type(b: u8) -> bool
     ensures { result ≡ is_base_type b }
 {
-    (b == b'B')
-        | (b == b'C')
-        | (b == b'D')
-        | (b == b'F')
-        | (b == b'I')
-        | (b == b'J')
-        | (b == b'S')
-        | (b == b'Z')
+    matches!(b, b'B' | b'C' | b'D' | b'F' | b'I' | b'J' | b'S' | b'Z')
 }
 
 // The object type whose class name starts at an offset, after its `L`.
-fn object_at(text: &[u8], dimensions: u32, start: usize) -> Field
-    requires { (length text.now ≤ text_limit) × (start ≤ length text.now) }
-    ensures { result ≡ object_from dimensions start (drop start text.now) }
+#[tactic(auto, using(crate::proofs::Laws::object_named))]
+fn object_at(text: Text, dimensions: u32, start: usize) -> Field
+    requires { start ≤ length text.bytes.now }
+    ensures { result ≡ object_from dimensions start (drop start text.entry.bytes.now) }
 {
-    match class_names::name_end(text, start) {
-        NameEnd::Semicolon(end) => Field::Parsed(
-            FieldDescriptor::object(dimensions, start as u32, (end - start) as u32),
-            end + 1,
-        ),
-        NameEnd::TextEnd(end) => Field::Refused(NAME_NOT_ENDED, end),
-        NameEnd::Refused(number, place) => Field::Refused(number, place),
+    match class_names::name_end(text.bytes, start)? {
+        NameEnd::Semicolon(end) => {
+            let parts = FieldDescriptor::object(dimensions, start as u32, (end - start) as u32);
+            Ok((parts, end + 1))
+        }
+        NameEnd::TextEnd(end) => Err(Reason::NameNotEnded.at(end)),
     }
 }
 
-fn to_u32(b: u8) -> u32
-    ensures { result ≡ b }
-{
-    b as u32
-}
-
 // The base or object type whose letter stands at an offset.
-fn type_at(text: &[u8], dimensions: u32, at: usize) -> Field
-    requires { (length text.now ≤ text_limit) × (at < length text.now) }
-    ensures { result ≡ type_from dimensions at (get_or text.now at 0) (drop (at + 1) text.now) }
+#[tactic(auto, using(crate::proofs::Laws::object_read, crate::proofs::Laws::base_read, crate::proofs::Laws::no_type_read))]
+fn type_at(text: Text, dimensions: u32, at: usize) -> Field
+    requires { at < length text.bytes.now }
+    ensures { result ≡ type_from dimensions at (get_or text.entry.bytes.now at 0) (drop (at + 1) text.entry.bytes.now) }
 {
-    let letter = text[at];
+    let letter = text.bytes[at];
     if letter == b'L' {
         return object_at(text, dimensions, at + 1);
     }
     if is_base_type(letter) {
-        return Field::Parsed(FieldDescriptor::base(dimensions, to_u32(letter)), at + 1);
+        return Ok((FieldDescriptor::base(dimensions, letter as u32), at + 1));
     }
-    Field::Refused(NO_SUCH_TYPE, at)
+    Err(Reason::NoSuchType.at(at))
 }
 
-// The field descriptor that starts at an offset; what follows it is ignored. For readers of longer texts, which have
-// seen that the text is within the limit.
-pub fn field_at(text: &[u8], start: usize) -> Field
-    requires { length text.now ≤ text_limit }
-    ensures { result ≡ field_from 0 start (drop start text.now) }
+// The field descriptor that starts at an offset; what follows it is ignored. For readers of longer texts.
+#[tactic(auto, using(crate::proofs::Laws::type_there, crate::proofs::Laws::bracket_256_there, crate::proofs::Laws::bracket_there))]
+pub fn field_at(text: Text, start: usize) -> Field
+    ensures { result ≡ field_from 0 start (drop start text.entry.bytes.now) }
 {
-    let mut dimensions: u32 = 0;
-    let mut at = start;
-    while at < text.len() {
-        if text[at] != b'[' {
+    let mut dimensions = 0;
+    let end = text.bytes.len().max(start);
+    for at in start..end {
+        if text.bytes[at] != b'[' {
             return type_at(text, dimensions, at);
         }
         if dimensions == FieldDescriptor::MAX_DIMENSIONS {
-            return Field::Refused(DIMENSION_256, at);
+            return Err(Reason::Dimension256.at(at));
         }
         dimensions += 1;
-        at += 1;
     }
-    Field::Refused(TYPE_DUE, at)
+    Err(Reason::TypeDue.at(end))
 }
 
 // Whether `V` is all that stands from an offset on.
 fn is_void(text: &[u8], at: usize) -> bool
     ensures { result ≡ is_void (drop at text.now) }
 {
-    if text.len() <= at {
-        return false;
-    }
-    text.len() - at == 1 && text[at] == b'V'
+    text.get(at..) == Some(b"V".as_slice())
 }
 
 // The return descriptor that starts at an offset, for the same readers as `field_at`.
-pub fn return_at(text: &[u8], start: usize) -> Field
-    requires { length text.now ≤ text_limit }
-    ensures { result ≡ return_from start (drop start text.now) }
+#[tactic(auto, using(crate::proofs::Laws::void_read, crate::proofs::Laws::value_read))]
+pub fn return_at(text: Text, start: usize) -> Field
+    ensures { result ≡ return_from start (drop start text.entry.bytes.now) }
 {
-    if is_void(text, start) {
-        return Field::Parsed(FieldDescriptor::void(), start + 1);
+    if is_void(text.bytes, start) {
+        return Ok((FieldDescriptor::void(), start + 1));
     }
     field_at(text, start)
 }
 
 // A reading of a text of so many bytes that must use them all.
-fn all_used(length: usize, reading: Field) -> Field
+#[tactic(auto, using(crate::proofs::Laws::used_whole))]
+pub fn all_used<T: Copy>(length: usize, reading: Parsed<T>) -> Parsed<T>
     ensures { result ≡ whole length reading }
 {
-    match reading {
-        Field::Parsed(parts, used) => {
-            if used < length {
-                return Field::Refused(LEFT_OVER, used);
-            }
-            Field::Parsed(parts, used)
-        }
-        Field::Refused(number, place) => Field::Refused(number, place),
+    let (read, used) = reading?;
+    if used < length {
+        return Err(Reason::LeftOver.at(used));
     }
+    Ok((read, used))
 }
 
 // The field descriptor that a text begins with; what follows it is ignored.
+#[tactic(auto, using(crate::proofs::Laws::field_too_long, crate::proofs::Laws::field_short))]
 pub fn field_prefix(text: &[u8]) -> Field
     ensures { result ≡ field_prefix text.now }
 {
-    if TEXT_LIMIT < text.len() {
-        return Field::Refused(OVER_THE_LIMIT, 0);
-    }
-    field_at(text, 0)
+    field_at(Text::new(text)?, 0)
 }
 
 // A text that is a field descriptor and nothing more.
@@ -201,13 +159,11 @@ pub fn field_whole(text: &[u8]) -> Field
 }
 
 // The same for a return descriptor, in which `V` is void only as the entire rest of the text.
+#[tactic(auto, using(crate::proofs::Laws::return_too_long, crate::proofs::Laws::return_short))]
 pub fn return_prefix(text: &[u8]) -> Field
     ensures { result ≡ return_prefix text.now }
 {
-    if TEXT_LIMIT < text.len() {
-        return Field::Refused(OVER_THE_LIMIT, 0);
-    }
-    return_at(text, 0)
+    return_at(Text::new(text)?, 0)
 }
 
 pub fn return_whole(text: &[u8]) -> Field
@@ -220,49 +176,37 @@ pub fn return_whole(text: &[u8]) -> Field
 pub fn begins_with(text: &[u8], at: usize, b: u8) -> bool
     ensures { result ≡ begins_with b (drop at text.now) }
 {
-    at < text.len() && text[at] == b
+    text.get(at) == Some(&b)
 }
 
-// A text that is a field descriptor of an array and nothing more.
-pub fn array_whole(text: &[u8]) -> Array
+// A text that is a field descriptor of an array and nothing more, or no array.
+#[tactic(auto, using(crate::proofs::Laws::array_too_long, crate::proofs::Laws::array_short_none, crate::proofs::Laws::array_short_read))]
+pub fn array_whole(text: &[u8]) -> Result<Option<FieldDescriptor>, Refusal<usize>>
     ensures { result ≡ array_text text.now }
 {
-    if TEXT_LIMIT < text.len() {
-        return Array::Refused(OVER_THE_LIMIT, 0);
+    let text = Text::new(text)?;
+    if !begins_with(text.bytes, 0, b'[') {
+        return Ok(None);
     }
-    if !begins_with(text, 0, b'[') {
-        return Array::NotArray;
-    }
-    match field_whole(text) {
-        Field::Parsed(parts, _) => Array::Parsed(parts),
-        Field::Refused(number, place) => Array::Refused(number, place),
-    }
-}
-
-fn is_accepted(reading: Field) -> bool
-    ensures { result ≡ is_accepted reading }
-{
-    match reading {
-        Field::Parsed(_, _) => true,
-        Field::Refused(_, _) => false,
-    }
+    let (parts, _) = field_whole(text.bytes)?;
+    Ok(Some(parts))
 }
 
 // Yes or no, as the whole readings accept or refuse.
 pub fn is_field_descriptor(text: &[u8]) -> bool
     ensures { result ≡ is_field_text text.now }
 {
-    is_accepted(field_whole(text))
+    field_whole(text).is_ok()
 }
 
 pub fn is_return_descriptor(text: &[u8]) -> bool
     ensures { result ≡ is_return_text text.now }
 {
-    is_accepted(return_whole(text))
+    return_whole(text).is_ok()
 }
 
 pub fn is_array_descriptor(text: &[u8]) -> bool
     ensures { result ≡ is_array_text text.now }
 {
-    begins_with(text, 0, b'[') && is_accepted(field_whole(text))
+    begins_with(text, 0, b'[') && field_whole(text).is_ok()
 }

@@ -11,24 +11,24 @@ use lib.Dec.{leb}
 use lib.ListN.{length}
 use Rattle.laws.specs.Bytes.{In, one_of}
 use Rattle.laws.proofs.Bytes.{one_of_lem}
+use Rattle.std.specs.Prelude.{Ok, Err}
+use Rattle.refusals.specs.declared.Reason.{Reason}
+use Rattle.refusals.specs.declared.Reason.TheVariants as reason
+use Rattle.refusals.specs.declared.Refusal.{Refusal}
+use Rattle.refusals.specs.Numbers.{refused, number_of}
 use Rattle.read.specs.declared.CodeOffset.{CodeOffset}
-use Rattle.ordinary.specs.declared.Step.TheVariants as step
 use Rattle.instruction.specs.Steps.{step_of}
 use Rattle.instruction.specs.Entries.{entries_of}
 use Rattle.instruction.specs.Faults.{step_refusals}
 use Rattle.instruction.proofs.Faults.{step_refused_exactly, step_refuses}
 use Rattle.lines.specs.Lines.{Line, Lines, lines_of, list_of, Consecutive}
 use Rattle.lines.proofs.Exactly.{lines_exactly}
-use Rattle.jumps.specs.declared.Checked.{Checked}
-use Rattle.jumps.specs.declared.Checked.TheVariants as checked
-use Rattle.jumps.specs.Jumps.{Jumps, target_of, starts_of, check}
+use Rattle.jumps.specs.declared.Failure.{Failure}
+use Rattle.jumps.specs.Jumps.{Jumps, Checked, failure, target_of, starts_of, check}
 use Rattle.jumps.specs.Landing.{AllLand, Fails}
 use Rattle.jumps.proofs.Exactly.{good_exactly, bad_exactly}
-use Rattle.bytecode.specs.declared.Run.{Run}
-use Rattle.bytecode.specs.declared.Run.TheVariants as run
 use Rattle.bytecode.specs.declared.Decoded.{Decoded}
-use Rattle.bytecode.specs.declared.Decoded.TheVariants as decoded
-use Rattle.bytecode.specs.Decoding.{code_limit, pool_limit, fitting, fitted, run_from, line_jumps, jumps_of, judged, answer_of, decoding}
+use Rattle.bytecode.specs.Decoding.{Run, Decision, counts, code_limit, pool_limit, fitting, fitted, run_from, line_jumps, jumps_of, judged, answer_of, decoding}
 use Rattle.bytecode.proofs.Laws.{fit_line, fit_14, fit_15}
 use Rattle.bytecode.proofs.Limits.{over_code, over_pool, both_within, Limits, by_limits}
 use Rattle.exactly.specs.Standing.{Standing, lines_in, total_entries, LinesTile, jumps_drawn, all_jumps_drawn}
@@ -42,10 +42,10 @@ module _ (code pool : List ℕ) where
   -- What a run over consecutive lines comes to: lines that are stored, and then the end of the code, a fault of an instruction,
   -- or a line for which there is no room
   data Ending (at : CodeOffset) (records entries : ℕ) : Run → Type 0 where
-    filled : {k m : ℕ} → at.0 ≡ length code → Ending at records entries (run.Filled k m)
-    fault : {n : ℕ} {p : CodeOffset} → at.0 < length code → step_of code pool at ≡ step.Refused n p → Ending at records entries (run.Refused n p)
-    no_entry : {n : ℕ} {p : CodeOffset} (s : Standing code pool) → s.line.at ≡ at → entries < entries_of s.line.instruction → n ≡ 14 → p ≡ at → Ending at records entries (run.Refused n p)
-    no_record : {n : ℕ} {p : CodeOffset} (s : Standing code pool) → s.line.at ≡ at → entries_of s.line.instruction ≤ entries → records ≡ 0 → n ≡ 15 → p ≡ at → Ending at records entries (run.Refused n p)
+    filled : {d : Decoded} → at.0 ≡ length code → Ending at records entries (Ok d)
+    fault : {r : Refusal CodeOffset} → at.0 < length code → step_of code pool at ≡ Err r → Ending at records entries (Err r)
+    no_entry : {r : Refusal CodeOffset} (s : Standing code pool) → s.line.at ≡ at → entries < entries_of s.line.instruction → r.reason ≡ reason.NoEntryLeft → r.place ≡ at → Ending at records entries (Err r)
+    no_record : {r : Refusal CodeOffset} (s : Standing code pool) → s.line.at ≡ at → entries_of s.line.instruction ≤ entries → records ≡ 0 → r.reason ≡ reason.NoRecordLeft → r.place ≡ at → Ending at records entries (Err r)
 
   record Course (at : CodeOffset) (records entries : ℕ) (r : Run) : Type 0 where
     lines : List (Standing code pool)
@@ -72,7 +72,7 @@ module _ (code pool : List ℕ) where
       }
 
   -- one line more before a course, and a line that has no room
-  module _ (l : Line) (at : CodeOffset) (entries : ℕ) (e : l.at ≡ at) (decoded : step_of code pool at ≡ step.Decoded l.instruction l.next) where
+  module _ (l : Line) (at : CodeOffset) (entries : ℕ) (e : l.at ≡ at) (decoded : step_of code pool at ≡ Ok (l.instruction, l.next)) where
     abbrev own : ℕ
     own = entries_of l.instruction
 
@@ -109,8 +109,8 @@ module _ (code pool : List ℕ) where
 
   course : (ls : Lines) (at : CodeOffset) (k m records entries : ℕ) → Consecutive code pool at ls → Course at records entries (run_from k m (fitting records entries ls))
   unfolding fitting run_from
-  course Lines.end at k m records entries c = at_once at records entries (run.Filled k m) (Ending.filled c)
-  course (Lines.stop n p) at k m records entries c = at_once at records entries (run.Refused n p) (Ending.fault c.0 c.1)
+  course Lines.end at k m records entries c = at_once at records entries (Ok (counts k m)) (Ending.filled c)
+  course (Lines.stop r) at k m records entries c = at_once at records entries (Err r) (Ending.fault c.0 c.1)
   course (Lines.line l rest) at k m records entries c =
       one_line l at entries c.0 c.2 k m rest records (λ left. course rest l.next (k + 1) (m + entries_of l.instruction) left (entries - entries_of l.instruction) c.3)
 
@@ -142,19 +142,19 @@ module _ (code pool : List ℕ) (room_of_records room_of_entries : ℕ) (ls : Li
         ∙ ap (λ (r : Run). judged r (check (jumps_of code (onto (lines_in ls) left)))) ran_onto
         ∙ ap (λ (x : Lines). judged (run_from (length ls) total x) (check (jumps_of code (onto (lines_in ls) x)))) e
 
-    pub stopped : (n : ℕ) (p : CodeOffset) → left ≡ Lines.stop n p → decoding code pool room_of_records room_of_entries ≡ decoded.Refused n p 0
+    pub stopped : (r : Refusal CodeOffset) → left ≡ Lines.stop r → decoding code pool room_of_records room_of_entries ≡ Err (failure r.reason r.place 0)
     unfolding run_from
-    stopped n p e = answered e
+    stopped r e = answered e
 
-  pub all_judged : end.0 ≡ length code → decoding code pool room_of_records room_of_entries ≡ judged (run.Filled (length ls) total) (check (all_jumps_drawn ls))
+  pub all_judged : end.0 ≡ length code → decoding code pool room_of_records room_of_entries ≡ judged (Ok (counts (length ls) total)) (check (all_jumps_drawn ls))
   unfolding fitting run_from
   all_judged e =
       answered Lines.end e refl
-      ∙ ap (λ (js : List Jumps). judged (run.Filled (length ls) total) (check js)) (ap (map (line_jumps code)) (list_onto (lines_in ls)) ∙ sym (all_jumps_drawn_lem code pool ls))
+      ∙ ap (λ (js : List Jumps). judged (Ok (counts (length ls) total)) (check js)) (ap (map (line_jumps code)) (list_onto (lines_in ls)) ∙ sym (all_jumps_drawn_lem code pool ls))
 
 -- The jumps of lines land exactly where the check is good
 drawn_land : (code pool : List ℕ) (ls : List (Standing code pool))
-    → (check (all_jumps_drawn ls) ≡ checked.Good) ↔ ((s : Standing code pool) → Memᴰ s ls → AllLand (starts_of (all_jumps_drawn ls)) s.line.at (jumps_drawn s).words)
+    → (check (all_jumps_drawn ls) ≡ Ok tt) ↔ ((s : Standing code pool) → Memᴰ s ls → AllLand (starts_of (all_jumps_drawn ls)) s.line.at (jumps_drawn s).words)
 drawn_land code pool ls = (
   λ g s m. (good_exactly (all_jumps_drawn ls)).0 g (jumps_drawn s) (Memᴰ.map (λ (x : Standing code pool). jumps_drawn x) m),
   λ land. (good_exactly (all_jumps_drawn ls)).1 (λ j m.
@@ -163,65 +163,63 @@ drawn_land code pool ls = (
 )
 
 module _ (code pool : List ℕ) (room_of_records room_of_entries : ℕ) where
-  abbrev answer : Decoded
+  abbrev answer : Decision
   answer = decoding code pool room_of_records room_of_entries
 
   -- Why the answer is a refusal, and that it is the answer
-  record Refusal : Type 0 where
-    number : ℕ
-    place : CodeOffset
-    second : ℕ
-    why : Why code pool room_of_records room_of_entries number place second
-    is : answer ≡ decoded.Refused number place second
+  record Refused : Type 0 where
+    failed : Failure
+    why : Why code pool room_of_records room_of_entries failed.reason failed.place failed.second
+    is : answer ≡ Err failed
 
   -- All lines are stored: the check of their jumps decides
   record StoredAll : Type 0 where
     lines : List (Standing code pool)
     stored : StoredTo code pool room_of_records room_of_entries lines (record { 0 = length code })
-    is : answer ≡ judged (run.Filled (length lines) (total_entries (lines_in lines))) (check (all_jumps_drawn lines))
+    is : answer ≡ judged (Ok (counts (length lines) (total_entries (lines_in lines)))) (check (all_jumps_drawn lines))
 
   module _ (h : length code ≤ code_limit) (k : length pool ≤ pool_limit) where
-    of_run : (r : Run) → answer ≡ judged r (check (jumps_of code (fitted code pool room_of_records room_of_entries))) → Course code pool start room_of_records room_of_entries r → Refusal ⊎ StoredAll
+    of_run : (r : Run) → answer ≡ judged r (check (jumps_of code (fitted code pool room_of_records room_of_entries))) → Course code pool start room_of_records room_of_entries r → Refused ⊎ StoredAll
     of_run r q c = by_ending r c.ending q
       where
         stored : StoredTo code pool room_of_records room_of_entries c.lines c.end
         stored = record { short_code = h; short_pool = k; tile = c.tile; records_fit = c.records_fit; entries_fit = c.entries_fit }
 
-        by_ending : (r : Run) → Ending code pool c.end (room_of_records - length c.lines) (room_of_entries - total_entries (lines_in c.lines)) r → answer ≡ judged r (check (jumps_of code (fitted code pool room_of_records room_of_entries))) → Refusal ⊎ StoredAll
-        by_ending (run.Filled k' m') (Ending.filled e) q =
+        by_ending : (r : Run) → Ending code pool c.end (room_of_records - length c.lines) (room_of_entries - total_entries (lines_in c.lines)) r → answer ≡ judged r (check (jumps_of code (fitted code pool room_of_records room_of_entries))) → Refused ⊎ StoredAll
+        by_ending (Ok d) (Ending.filled e) q =
             let there : c.end ≡ record { 0 = length code } = ap (λ (i : ℕ). record { 0 = i }) e in
             inr (record { lines = c.lines; stored = subst (StoredTo code pool room_of_records room_of_entries c.lines) there stored; is = all_judged code pool room_of_records room_of_entries c.lines c.end stored e })
-        by_ending (run.Refused n p) (Ending.fault inside e) q =
-            inl (record { number = n; place = p; second = 0; why = Why.bad_instruction c.lines c.end stored inside ((step_refused_exactly code pool c.end n p).0 e) refl; is = q })
-        by_ending (run.Refused n p) (Ending.no_entry s at few is there) q =
-            inl (record { number = n; place = p; second = 0; why = Why.no_entry_left c.lines s (subst (StoredTo code pool room_of_records room_of_entries c.lines) (sym at) stored) (omega (arith, c.entries_fit)) (is, there ∙ sym at, refl); is = q })
-        by_ending (run.Refused n p) (Ending.no_record s at room none is there) q =
-            inl (record { number = n; place = p; second = 0; why = Why.no_record_left c.lines s (subst (StoredTo code pool room_of_records room_of_entries c.lines) (sym at) stored) (omega (arith, c.entries_fit)) (omega (arith, c.records_fit)) (is, there ∙ sym at, refl); is = q })
+        by_ending (Err r) (Ending.fault inside e) q =
+            inl (record { failed = failure r.reason r.place 0; why = Why.bad_instruction c.lines c.end stored inside ((step_refused_exactly code pool c.end r.reason r.place).0 e) refl; is = q })
+        by_ending (Err r) (Ending.no_entry s at few is there) q =
+            inl (record { failed = failure r.reason r.place 0; why = Why.no_entry_left c.lines s (subst (StoredTo code pool room_of_records room_of_entries c.lines) (sym at) stored) (omega (arith, c.entries_fit)) (is, there ∙ sym at, refl); is = q })
+        by_ending (Err r) (Ending.no_record s at room none is there) q =
+            inl (record { failed = failure r.reason r.place 0; why = Why.no_record_left c.lines s (subst (StoredTo code pool room_of_records room_of_entries c.lines) (sym at) stored) (omega (arith, c.entries_fit)) (omega (arith, c.records_fit)) (is, there ∙ sym at, refl); is = q })
 
-    by_course : Refusal ⊎ StoredAll
+    by_course : Refused ⊎ StoredAll
     unfolding decoding
     by_course =
         of_run (run_from 0 0 (fitted code pool room_of_records room_of_entries)) (both_within code pool (answer_of code (fitted code pool room_of_records room_of_entries)) h k)
         (course code pool (lines_of code pool) start 0 0 room_of_records room_of_entries ((lines_exactly code pool (lines_of code pool)).0 refl))
 
   -- What an answer says, and that the computed one says the truth
-  abbrev Says : Decoded → Type 0
-  Says (decoded.Accepted k m) = Demand2 code pool room_of_records room_of_entries k m
-  Says (decoded.Refused n place second) = Why code pool room_of_records room_of_entries n place second
+  abbrev Says : Decision → Type 0
+  Says (Ok d) = Demand2 code pool room_of_records room_of_entries d.instructions d.entries
+  Says (Err f) = Why code pool room_of_records room_of_entries f.reason f.place f.second
 
   only_lines : (ls others : List (Standing code pool)) → LinesTile start ls (record { 0 = length code }) → LinesTile start others (record { 0 = length code }) → lines_in others ≡ lines_in ls
   only_lines ls others h k =
       let same : onto (lines_in others) Lines.end ≡ onto (lines_in ls) Lines.end = sym (lines_are code pool others (record { 0 = length code }) Lines.end k refl) ∙ lines_are code pool ls (record { 0 = length code }) Lines.end h refl in
       sym (list_onto (lines_in others)) ∙ ap list_of same ∙ list_onto (lines_in ls)
 
-  judged_says : (a : StoredAll) (v : Checked) → check (all_jumps_drawn a.lines) ≡ v → Says (judged (run.Filled (length a.lines) (total_entries (lines_in a.lines))) v)
-  judged_says a checked.Good g =
+  judged_says : (a : StoredAll) (v : Checked) → check (all_jumps_drawn a.lines) ≡ v → Says (judged (Ok (counts (length a.lines) (total_entries (lines_in a.lines)))) v)
+  judged_says a (Ok good) g =
       record {
         lines = a.lines;
         accepted = record { stored = a.stored; instructions = refl; switch_entries = refl; land = (drawn_land code pool a.lines).0 g };
         only = λ others h. only_lines a.lines others a.stored.tile h;
       }
-  judged_says a (checked.Bad n place second) b = Why.bad_jump a.lines a.stored ((bad_exactly (all_jumps_drawn a.lines) n place second).0 b)
+  judged_says a (Err f) b = Why.bad_jump a.lines a.stored ((bad_exactly (all_jumps_drawn a.lines) f.reason f.place f.second).0 b)
 
   truth : Says answer
   unfolding decoding
@@ -234,34 +232,34 @@ module _ (code pool : List ℕ) (room_of_records room_of_entries : ℕ) where
           ⊎_elim (λ r. subst Says (sym r.is) r.why) (λ a. subst Says (sym a.is) (judged_says a (check (all_jumps_drawn a.lines)) refl)) (by_course h k)
 
   -- And what is true is the answer
-  accepted_is : (k m : ℕ) → Demand2 code pool room_of_records room_of_entries k m → answer ≡ decoded.Accepted k m
+  accepted_is : (k m : ℕ) → Demand2 code pool room_of_records room_of_entries k m → answer ≡ Ok (counts k m)
   accepted_is k m d =
       let a = d.accepted in
       all_judged code pool room_of_records room_of_entries d.lines (record { 0 = length code }) a.stored refl
-      ∙ ap (judged (run.Filled (length d.lines) (total_entries (lines_in d.lines)))) ((drawn_land code pool d.lines).1 a.land)
-      ∙ ap₂ decoded.Accepted (sym a.instructions) (sym a.switch_entries)
+      ∙ ap (judged (Ok (counts (length d.lines) (total_entries (lines_in d.lines))))) ((drawn_land code pool d.lines).1 a.land)
+      ∙ ap₂ (λ (x y : ℕ). Ok (counts x y)) (sym a.instructions) (sym a.switch_entries)
 
-  why_is : (n : ℕ) (place : CodeOffset) (second : ℕ) → Why code pool room_of_records room_of_entries n place second → answer ≡ decoded.Refused n place second
+  why_is : (n : Reason) (place : CodeOffset) (second : ℕ) → Why code pool room_of_records room_of_entries n place second → answer ≡ Err (failure n place second)
   unfolding decoding fitting
   why_is n place second (Why.long_code h t) = rw (t.0, t.1, t.2) (over_code code pool _ h)
   why_is n place second (Why.long_pool h k t) = rw (t.0, t.1, t.2) (over_pool code pool _ h k)
   why_is n place second (Why.bad_instruction ls at stored inside wrong none) =
-      rw none (stopped code pool room_of_records room_of_entries ls at stored (Lines.stop n place) (inside, (step_refused_exactly code pool at n place).1 wrong) n place refl)
+      rw none (stopped code pool room_of_records room_of_entries ls at stored (Lines.stop (refused n place)) (inside, (step_refused_exactly code pool at n place).1 wrong) (refused n place) refl)
   why_is n place second (Why.no_entry_left ls s stored few t) =
       let rest : Lines = lines_past code pool s in
       let fewer : room_of_entries - total_entries (lines_in ls) < entries_of s.line.instruction = omega (arith, stored.entries_fit) in
       rw (t.0, t.1, t.2)
-      (stopped code pool room_of_records room_of_entries ls s.line.at stored (Lines.line s.line rest) (after_line code pool s) 14 s.line.at (fit_14 s.line rest _ (room_of_records - length ls) fewer))
+      (stopped code pool room_of_records room_of_entries ls s.line.at stored (Lines.line s.line rest) (after_line code pool s) (refused reason.NoEntryLeft s.line.at) (fit_14 s.line rest _ (room_of_records - length ls) fewer))
   why_is n place second (Why.no_record_left ls s stored room full t) =
       let rest : Lines = lines_past code pool s in
       let empty : room_of_records - length ls ≡ 0 = omega arith in
       let some : entries_of s.line.instruction ≤ room_of_entries - total_entries (lines_in ls) = omega arith in
       rw (t.0, t.1, t.2)
-      (stopped code pool room_of_records room_of_entries ls s.line.at stored (Lines.line s.line rest) (after_line code pool s) 15 s.line.at
+      (stopped code pool room_of_records room_of_entries ls s.line.at stored (Lines.line s.line rest) (after_line code pool s) (refused reason.NoRecordLeft s.line.at)
       (ap (λ (x : ℕ). fitting x (room_of_entries - total_entries (lines_in ls)) (Lines.line s.line rest)) empty ∙ fit_15 s.line rest _ some))
   why_is n place second (Why.bad_jump ls stored fails) =
       all_judged code pool room_of_records room_of_entries ls (record { 0 = length code }) stored refl
-      ∙ ap (judged (run.Filled (length ls) (total_entries (lines_in ls)))) ((bad_exactly (all_jumps_drawn ls) n place second).1 fails)
+      ∙ ap (judged (Ok (counts (length ls) (total_entries (lines_in ls))))) ((bad_exactly (all_jumps_drawn ls) n place second).1 fails)
 
 pub demand_2_exactly : Demand2Exactly
 demand_2_exactly code pool room_of_records room_of_entries k m = (λ e. subst (Says code pool room_of_records room_of_entries) e (truth code pool room_of_records room_of_entries), accepted_is code pool room_of_records room_of_entries k m)
@@ -270,23 +268,23 @@ pub refused_exactly : RefusedExactly
 refused_exactly code pool room_of_records room_of_entries n place second = (λ e. subst (Says code pool room_of_records room_of_entries) e (truth code pool room_of_records room_of_entries), why_is code pool room_of_records room_of_entries n place second)
 
 -- The numbers
-numbered : {n : ℕ} (numbers : List ℕ) (number : ℕ) → one_of numbers number ≡ true → n ≡ number → In n numbers
-numbered numbers number h e = subst (λ (m : ℕ). In m numbers) (sym e) ((one_of_lem numbers number).0 h)
+numbered : {n : Reason} (numbers : List ℕ) (why : Reason) → one_of numbers (number_of why) ≡ true → n ≡ why → In (number_of n) numbers
+numbered numbers why h e = subst (λ (r : Reason). In (number_of r) numbers) (sym e) ((one_of_lem numbers (number_of why)).0 h)
 
 step_refusal : {n : ℕ} → In n step_refusals → In n refusals
 step_refusal m = Memᴰ.tail (Memᴰ.tail (Memᴰ.append_left (12 ∷ 13 ∷ 14 ∷ 15 ∷ []) m))
 
-why_number : (code pool : List ℕ) (room_of_records room_of_entries n : ℕ) (place : CodeOffset) (second : ℕ) → Why code pool room_of_records room_of_entries n place second → In n refusals × (In n (12 ∷ 13 ∷ []) ⊎ (second ≡ 0))
-why_number code pool room_of_records room_of_entries n place second (Why.long_code h t) = (numbered refusals 1 refl t.0, inr t.2)
-why_number code pool room_of_records room_of_entries n place second (Why.long_pool h k t) = (numbered refusals 2 refl t.0, inr t.2)
+why_number : (code pool : List ℕ) (room_of_records room_of_entries : ℕ) (n : Reason) (place : CodeOffset) (second : ℕ) → Why code pool room_of_records room_of_entries n place second → In (number_of n) refusals × (In (number_of n) (12 ∷ 13 ∷ []) ⊎ (second ≡ 0))
+why_number code pool room_of_records room_of_entries n place second (Why.long_code h t) = (numbered refusals reason.CodeTooLong refl t.0, inr t.2)
+why_number code pool room_of_records room_of_entries n place second (Why.long_pool h k t) = (numbered refusals reason.PoolTooLong refl t.0, inr t.2)
 why_number code pool room_of_records room_of_entries n place second (Why.bad_instruction ls at stored inside wrong none) = (step_refusal (step_refuses code pool at n place ((step_refused_exactly code pool at n place).1 wrong)), inr none)
-why_number code pool room_of_records room_of_entries n place second (Why.no_entry_left ls s stored few t) = (numbered refusals 14 refl t.0, inr t.2)
-why_number code pool room_of_records room_of_entries n place second (Why.no_record_left ls s stored room full t) = (numbered refusals 15 refl t.0, inr t.2)
+why_number code pool room_of_records room_of_entries n place second (Why.no_entry_left ls s stored few t) = (numbered refusals reason.NoEntryLeft refl t.0, inr t.2)
+why_number code pool room_of_records room_of_entries n place second (Why.no_record_left ls s stored room full t) = (numbered refusals reason.NoRecordLeft refl t.0, inr t.2)
 why_number code pool room_of_records room_of_entries n place second (Why.bad_jump ls stored fails) = of_jump fails.fails
   where
-    of_jump : Fails (starts_of (all_jumps_drawn ls)) (target_of fails.at.at fails.word) n → In n refusals × (In n (12 ∷ 13 ∷ []) ⊎ (second ≡ 0))
-    of_jump (Fails.below_zero t e is) = (numbered refusals 12 refl is, inl (numbered (12 ∷ 13 ∷ []) 12 refl is))
-    of_jump (Fails.nowhere t e missed is) = (numbered refusals 13 refl is, inl (numbered (12 ∷ 13 ∷ []) 13 refl is))
+    of_jump : Fails (starts_of (all_jumps_drawn ls)) (target_of fails.at.at fails.word) n → In (number_of n) refusals × (In (number_of n) (12 ∷ 13 ∷ []) ⊎ (second ≡ 0))
+    of_jump (Fails.below_zero t e is) = (numbered refusals reason.BelowZero refl is, inl (numbered (12 ∷ 13 ∷ []) reason.BelowZero refl is))
+    of_jump (Fails.nowhere t e missed is) = (numbered refusals reason.NoTarget refl is, inl (numbered (12 ∷ 13 ∷ []) reason.NoTarget refl is))
 
 pub refusal_numbers : RefusalNumbers
 refusal_numbers code pool room_of_records room_of_entries n place second e = why_number code pool room_of_records room_of_entries n place second ((refused_exactly code pool room_of_records room_of_entries n place second).0 e)

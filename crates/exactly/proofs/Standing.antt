@@ -4,10 +4,10 @@ use mathlib.Core.List.{List, [], ◌∷◌, map}
 use mathlib.Core.Path.{◌≡◌, refl, sym, ap, ap₂, ◌∙◌, subst}
 use native.Mathlib.Omega.{arith}
 use lib.ListN.{length, length-map}
+use Rattle.std.specs.Prelude.{Ok}
 use Rattle.read.specs.declared.CodeOffset.{CodeOffset}
 use Rattle.ordinary.specs.declared.Instruction.{Instruction}
 use Rattle.ordinary.specs.declared.Instruction.TheVariants as instruction
-use Rattle.ordinary.specs.declared.Step.TheVariants as step
 use Rattle.records.specs.declared.SwitchEntry.{SwitchEntry}
 use Rattle.switches.specs.Entries.{entries_in}
 use Rattle.instruction.specs.Steps.{step_of}
@@ -53,10 +53,10 @@ fit_onto (l ∷ ls) rest (suc records) entries h k =
 
 module _ (code pool : List ℕ) where
   -- a line that stands is decoded, and the other way
-  pub decoded_line : (s : Standing code pool) → step_of code pool s.line.at ≡ step.Decoded s.line.instruction s.line.next
+  pub decoded_line : (s : Standing code pool) → step_of code pool s.line.at ≡ Ok (s.line.instruction, s.line.next)
   decoded_line s = (step_exactly code pool s.line.at s.line.instruction s.line.next).1 s.stands
 
-  abbrev pub standing_line : (l : Line) → step_of code pool l.at ≡ step.Decoded l.instruction l.next → Standing code pool
+  abbrev pub standing_line : (l : Line) → step_of code pool l.at ≡ Ok (l.instruction, l.next) → Standing code pool
   standing_line l e = record { line = l; stands = (step_exactly code pool l.at l.instruction l.next).0 e }
 
   one_before : (s : Standing code pool) (at : CodeOffset) (rest : Lines) → s.line.at ≡ at → Consecutive code pool s.line.next rest → Consecutive code pool at (Lines.line s.line rest)

@@ -5,12 +5,13 @@ use mathlib.Core.Path.{◌≡◌, refl, sym, ap, ◌∙◌}
 use native.Mathlib.Omega.{arith}
 use lib.ListN.{length, take, drop}
 use lib.Seq.{take_at}
+use Rattle.std.specs.Prelude.{Ok, Err}
+use Rattle.refusals.specs.declared.Reason.{Reason}
+use Rattle.refusals.specs.declared.Reason.TheVariants as reason
 use Rattle.read.specs.declared.CodeOffset.{CodeOffset}
 use Rattle.lines.specs.Lines.{lines_of, list_of}
 use Rattle.records.specs.Records.{record_words, entry_words, record_room, entry_room}
-use Rattle.bytecode.specs.declared.Decoded.{Decoded}
-use Rattle.bytecode.specs.declared.Decoded.TheVariants as decoded
-use Rattle.bytecode.specs.Decoding.{decoding}
+use Rattle.bytecode.specs.Decoding.{Decision, decoding}
 use Rattle.bytecode.specs.Rows.{record_row, entry_row}
 use Rattle.bytecode.proofs.Accepted.{acceptance}
 use Rattle.bytecode.proofs.Rows.{record_words_lem, row_words, accepted_stores}
@@ -30,7 +31,7 @@ module _ (code pool : List ℕ) (room_of_records room_of_entries room_of_records
       let a = d.accepted in
       record { lines = d.lines; accepted = record { stored = stored_more a.stored; instructions = a.instructions; switch_entries = a.switch_entries; land = a.land }; only = d.only }
 
-  why_more : {n : ℕ} {place : CodeOffset} {second : ℕ} → (n ≡ 14 → ⊥) → (n ≡ 15 → ⊥) → Why code pool room_of_records room_of_entries n place second → Why code pool room_of_records' room_of_entries' n place second
+  why_more : {n : Reason} {place : CodeOffset} {second : ℕ} → (n ≡ reason.NoEntryLeft → ⊥) → (n ≡ reason.NoRecordLeft → ⊥) → Why code pool room_of_records room_of_entries n place second → Why code pool room_of_records' room_of_entries' n place second
   why_more a b (Why.long_code h t) = Why.long_code h t
   why_more a b (Why.long_pool h k t) = Why.long_pool h k t
   why_more a b (Why.bad_instruction ls at s inside fault none) = Why.bad_instruction ls at (stored_more s) inside fault none
@@ -38,10 +39,10 @@ module _ (code pool : List ℕ) (room_of_records room_of_entries room_of_records
   why_more a b (Why.no_record_left ls l s room full t) = absurd (b t.0)
   why_more a b (Why.bad_jump ls s fails) = Why.bad_jump ls (stored_more s) fails
 
-  same_answer : (answer : Decoded) → decoding code pool room_of_records room_of_entries ≡ answer → NotForRoom answer → decoding code pool room_of_records' room_of_entries' ≡ answer
-  same_answer (decoded.Accepted k m) e room = (demand_2_exactly code pool room_of_records' room_of_entries' k m).1 (accepted_more ((demand_2_exactly code pool room_of_records room_of_entries k m).0 e))
-  same_answer (decoded.Refused n place second) e room =
-      (refused_exactly code pool room_of_records' room_of_entries' n place second).1 (why_more room.0 room.1 ((refused_exactly code pool room_of_records room_of_entries n place second).0 e))
+  same_answer : (answer : Decision) → decoding code pool room_of_records room_of_entries ≡ answer → NotForRoom answer → decoding code pool room_of_records' room_of_entries' ≡ answer
+  same_answer (Ok d) e room = (demand_2_exactly code pool room_of_records' room_of_entries' d.instructions d.entries).1 (accepted_more ((demand_2_exactly code pool room_of_records room_of_entries d.instructions d.entries).0 e))
+  same_answer (Err f) e room =
+      (refused_exactly code pool room_of_records' room_of_entries' f.reason f.place f.second).1 (why_more room.0 room.1 ((refused_exactly code pool room_of_records room_of_entries f.reason f.place f.second).0 e))
 
 pub larger_rooms : LargerRooms
 larger_rooms code pool room_of_records room_of_entries room_of_records' room_of_entries' h k room =

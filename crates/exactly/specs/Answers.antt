@@ -1,15 +1,17 @@
 -- Each answer of `decode` exactly when, over the instructions that stand in the code: document 01's table of refusals, row by
 -- row, and demand 2 of the order. Nothing here reads. The proofs are in proofs/Answers.antt.
-use Rattle.std.specs.Prelude.{ℕ, ◌+◌, ◌≤◌, ◌<◌, ◌↔◌, ◌⊎◌, ◌≡◌, length}
+use Rattle.std.specs.Prelude.{ℕ, ◌+◌, ◌≤◌, ◌<◌, ◌↔◌, ◌⊎◌, ◌≡◌, length, Ok, Err}
 use mathlib.Core.List.{List, [], ◌∷◌, Memᴰ}
 use Rattle.laws.specs.Bytes.{In}
+use Rattle.refusals.specs.declared.Reason.{Reason}
+use Rattle.refusals.specs.declared.Reason.TheVariants as reason
+use Rattle.refusals.specs.Numbers.{number_of}
 use Rattle.read.specs.declared.CodeOffset.{CodeOffset}
 use Rattle.instruction.specs.Entries.{entries_of}
 use Rattle.instruction.specs.Faults.{StepFault}
-use Rattle.jumps.specs.Jumps.{starts_of}
+use Rattle.jumps.specs.Jumps.{failure, starts_of}
 use Rattle.jumps.specs.Landing.{AllLand, FirstFailing}
-use Rattle.bytecode.specs.declared.Decoded.TheVariants as decoded
-use Rattle.bytecode.specs.Decoding.{code_limit, pool_limit, decoding}
+use Rattle.bytecode.specs.Decoding.{counts, code_limit, pool_limit, decoding}
 use Rattle.exactly.specs.Standing.{Standing, lines_in, total_entries, LinesTile, jumps_drawn, all_jumps_drawn}
 
 abbrev offset : ℕ → CodeOffset
@@ -39,18 +41,18 @@ pub record Demand2 (code pool : List ℕ) (room_of_records room_of_entries k m :
 abbrev pub Demand2Exactly : Type 0
 Demand2Exactly =
     (code pool : List ℕ) (room_of_records room_of_entries k m : ℕ)
-    → (decoding code pool room_of_records room_of_entries ≡ decoded.Accepted k m) ↔ Demand2 code pool room_of_records room_of_entries k m
+    → (decoding code pool room_of_records room_of_entries ≡ Ok (counts k m)) ↔ Demand2 code pool room_of_records room_of_entries k m
 
--- This number, at this place, with 0 for the second number
-abbrev pub Tells : ℕ → CodeOffset → ℕ → CodeOffset → ℕ → Type 0
-Tells number at n place second = (n ≡ number) × (place ≡ at) × (second ≡ 0)
+-- This reason, at this place, with 0 for the second number
+abbrev pub Tells : Reason → CodeOffset → Reason → CodeOffset → ℕ → Type 0
+Tells why at n place second = (n ≡ why) × (place ≡ at) × (second ≡ 0)
 
--- Why a code is refused with a number, a place and a second number
-pub data Why (code pool : List ℕ) (room_of_records room_of_entries : ℕ) (n : ℕ) (place : CodeOffset) (second : ℕ) : Type 0 where
+-- Why a code is refused for a reason, at a place, with a second number
+pub data Why (code pool : List ℕ) (room_of_records room_of_entries : ℕ) (n : Reason) (place : CodeOffset) (second : ℕ) : Type 0 where
   -- 1, 2: the code or the pool table is over its limit
-  long_code : code_limit < length code → Tells 1 (offset 0) n place second → Why code pool room_of_records room_of_entries n place second
+  long_code : code_limit < length code → Tells reason.CodeTooLong (offset 0) n place second → Why code pool room_of_records room_of_entries n place second
   long_pool :
-      length code ≤ code_limit → pool_limit < length pool → Tells 2 (offset 0) n place second
+      length code ≤ code_limit → pool_limit < length pool → Tells reason.PoolTooLong (offset 0) n place second
       → Why code pool room_of_records room_of_entries n place second
   -- 3 to 11: after lines that are stored, the code goes on, and the instruction there has a fault of its own
   bad_instruction :
@@ -60,12 +62,12 @@ pub data Why (code pool : List ℕ) (room_of_records room_of_entries : ℕ) (n :
   -- 14: the next line has more entries than there is room left
   no_entry_left :
       (ls : List (Standing code pool)) (s : Standing code pool) → StoredTo code pool room_of_records room_of_entries ls s.line.at
-      → room_of_entries < total_entries (lines_in ls) + entries_of s.line.instruction → Tells 14 s.line.at n place second
+      → room_of_entries < total_entries (lines_in ls) + entries_of s.line.instruction → Tells reason.NoEntryLeft s.line.at n place second
       → Why code pool room_of_records room_of_entries n place second
   -- 15: its entries have room, and no record is left
   no_record_left :
       (ls : List (Standing code pool)) (s : Standing code pool) → StoredTo code pool room_of_records room_of_entries ls s.line.at
-      → total_entries (lines_in ls) + entries_of s.line.instruction ≤ room_of_entries → length ls ≡ room_of_records → Tells 15 s.line.at n place second
+      → total_entries (lines_in ls) + entries_of s.line.instruction ≤ room_of_entries → length ls ≡ room_of_records → Tells reason.NoRecordLeft s.line.at n place second
       → Why code pool room_of_records room_of_entries n place second
   -- 12, 13: all lines are stored, and this is the first jump that fails
   bad_jump :
@@ -76,8 +78,8 @@ pub data Why (code pool : List ℕ) (room_of_records room_of_entries : ℕ) (n :
 -- proved as `refused_exactly`
 abbrev pub RefusedExactly : Type 0
 RefusedExactly =
-    (code pool : List ℕ) (room_of_records room_of_entries n : ℕ) (place : CodeOffset) (second : ℕ)
-    → (decoding code pool room_of_records room_of_entries ≡ decoded.Refused n place second) ↔ Why code pool room_of_records room_of_entries n place second
+    (code pool : List ℕ) (room_of_records room_of_entries : ℕ) (n : Reason) (place : CodeOffset) (second : ℕ)
+    → (decoding code pool room_of_records room_of_entries ≡ Err (failure n place second)) ↔ Why code pool room_of_records room_of_entries n place second
 
 -- So the numbers are 1 to 15, and the second number is 0 but for 12 and 13: proved as `refusal_numbers`
 abbrev pub refusals : List ℕ
@@ -85,6 +87,6 @@ refusals = 1 ∷ 2 ∷ 3 ∷ 4 ∷ 5 ∷ 6 ∷ 7 ∷ 8 ∷ 9 ∷ 10 ∷ 11 ∷ 1
 
 abbrev pub RefusalNumbers : Type 0
 RefusalNumbers =
-    (code pool : List ℕ) (room_of_records room_of_entries n : ℕ) (place : CodeOffset) (second : ℕ)
-    → decoding code pool room_of_records room_of_entries ≡ decoded.Refused n place second
-    → In n refusals × (In n (12 ∷ 13 ∷ []) ⊎ (second ≡ 0))
+    (code pool : List ℕ) (room_of_records room_of_entries : ℕ) (n : Reason) (place : CodeOffset) (second : ℕ)
+    → decoding code pool room_of_records room_of_entries ≡ Err (failure n place second)
+    → In (number_of n) refusals × (In (number_of n) (12 ∷ 13 ∷ []) ⊎ (second ≡ 0))

@@ -1,14 +1,13 @@
 -- Of the stores only their room counts, and more of it does away with 14 and 15 alone. The proofs are in proofs/Stores.antt.
-use Rattle.std.specs.Prelude.{ℕ, ◌*◌, ◌≤◌, List, ◌≡◌, take}
+use Rattle.std.specs.Prelude.{ℕ, ◌*◌, ◌≤◌, List, ◌≡◌, take, Ok, Err}
 use Rattle.records.specs.Records.{record_words, entry_words, record_room, entry_room}
-use Rattle.bytecode.specs.declared.Decoded.{Decoded}
-use Rattle.bytecode.specs.declared.Decoded.TheVariants as decoded
-use Rattle.bytecode.specs.Decoding.{decoding, records_after, entries_after}
+use Rattle.refusals.specs.declared.Reason.TheVariants as reason
+use Rattle.bytecode.specs.Decoding.{Decision, counts, decoding, records_after, entries_after}
 
 -- an answer that is not for want of room
-abbrev pub NotForRoom : Decoded → Type 0
-NotForRoom (decoded.Accepted k m) = Unit {0}
-NotForRoom (decoded.Refused n place second) = (n ≡ 14 → ⊥) × (n ≡ 15 → ⊥)
+abbrev pub NotForRoom : Decision → Type 0
+NotForRoom (Ok d) = Unit {0}
+NotForRoom (Err f) = (f.reason ≡ reason.NoEntryLeft → ⊥) × (f.reason ≡ reason.NoRecordLeft → ⊥)
 
 -- More room gives the same answer: proved as `larger_rooms`
 abbrev pub LargerRooms : Type 0
@@ -21,7 +20,7 @@ LargerRooms =
 abbrev pub SameWords : Type 0
 SameWords =
     (code pool records entries records' entries' : List ℕ) (k m : ℕ)
-    → decoding code pool (record_room records) (entry_room entries) ≡ decoded.Accepted k m
-    → decoding code pool (record_room records') (entry_room entries') ≡ decoded.Accepted k m
+    → decoding code pool (record_room records) (entry_room entries) ≡ Ok (counts k m)
+    → decoding code pool (record_room records') (entry_room entries') ≡ Ok (counts k m)
     → (take (k * record_words) (records_after code pool records' entries') ≡ take (k * record_words) (records_after code pool records entries))
     × (take (m * entry_words) (entries_after code pool records' entries') ≡ take (m * entry_words) (entries_after code pool records entries))

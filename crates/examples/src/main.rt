@@ -1,247 +1,182 @@
 // Document 01's settled examples, run through the entries: one line for each, with the whole answer and every word of what
-// was lent, those past the used ones too. The file stdout was written by hand from document 01, not from this program.
+// was lent, those past the used ones too. The file stdout was written by hand from document 01, not from this program. What
+// cannot be written is lost, and the program goes on.
 #![tactic(auto)]
 
-ghost use Rattle.std.specs.Prelude.{◌≡◌, ◌≤◌, length};
+ghost use Rattle.std.specs.Prelude.{◌≤◌};
 
-use bytecode::Decoded;
-use class_names::Checked;
 use descriptors::{Field, FieldDescriptor};
-use lookup::Found;
-use methods::Method;
 use read::CodeOffset;
-use records::to_usize;
+use records::RecordIndex;
+use refusals::Reason;
 
-// How many `show_example` knows.
-const EXAMPLES: usize = 23;
-
-// What cannot be written is lost, and the program goes on.
-fn print(rt: &impl Print, bytes: &[u8]) {
-    let _ = rt.write_all(bytes);
-}
-
-fn print_number(rt: &impl Print, label: &[u8], number: usize) {
-    print(rt, label);
-    print(rt, b" ");
-    let _ = print!(rt; "{number}");
-}
-
-fn print_words(rt: &impl Print, label: &[u8], words: &[u32]) {
-    print(rt, label);
-    let mut i = 0;
-    while i < words.len() {
-        print_number(rt, b"", to_usize(words[i]));
-        i += 1;
+fn print_words(rt: &impl Print, words: &[u32]) {
+    for word in words {
+        let _ = print!(rt; " {word}");
     }
 }
 
-fn print_byte(rt: &impl Print, byte: u8) {
-    print(rt, b" ");
-    let _ = print!(rt; "{byte:02x}");
-}
-
-fn print_bytes(rt: &impl Print, label: &[u8], bytes: &[u8]) {
-    print(rt, label);
-    let mut i = 0;
-    while i < bytes.len() {
-        print_byte(rt, bytes[i]);
-        i += 1;
+fn print_bytes(rt: &impl Print, bytes: &[u8]) {
+    for byte in bytes {
+        let _ = print!(rt; " {byte:02x}");
     }
 }
 
-fn print_text(rt: &impl Print, label: &[u8], text: &[u8]) {
-    print(rt, label);
-    print(rt, b" `");
-    print(rt, text);
-    print(rt, b"`");
-}
-
-fn print_refusal(rt: &impl Print, number: u32, place: usize) {
-    print_number(rt, b": refused", to_usize(number));
-    print_number(rt, b" at", place);
-}
-
-fn print_decoded(rt: &impl Print, answer: Decoded) {
-    match answer {
-        Decoded::Accepted(instructions, entries) => {
-            print_number(rt, b": accepted", instructions);
-            print_number(rt, b"", entries);
-        }
-        Decoded::Refused(number, place, second) => {
-            print_refusal(rt, number, place.0);
-            print_number(rt, b" second", to_usize(second));
-        }
-    }
-}
-
-fn print_found(rt: &impl Print, found: Found) {
-    match found {
-        Found::At(index) => print_number(rt, b"", index.0),
-        Found::Nothing => print(rt, b" -"),
-        Found::Refused(number, place) => print_refusal(rt, number, place.0),
-    }
-}
-
-fn print_checked(rt: &impl Print, answer: Checked) {
-    match answer {
-        Checked::Accepted => print(rt, b": accepted"),
-        Checked::Refused(number, place) => print_refusal(rt, number, place),
-    }
+fn print_refusal(rt: &impl Print, reason: Reason, place: usize) {
+    let _ = print!(rt; ": refused {} at {place}", reason.number());
 }
 
 // The four words of a part and the bytes used.
 fn print_part(rt: &impl Print, part: FieldDescriptor, used: usize) {
-    print_words(
-        rt,
-        b"",
-        &[part.dimensions, part.letter, part.start, part.length],
-    );
-    print_number(rt, b" used", used);
+    print_words(rt, &[part.dimensions, part.letter, part.start, part.length]);
+    let _ = print!(rt; " used {used}");
 }
 
 fn print_field(rt: &impl Print, answer: Field) {
     match answer {
-        Field::Parsed(part, used) => {
-            print(rt, b": accepted");
+        Ok((part, used)) => {
+            let _ = print!(rt; ": accepted");
             print_part(rt, part, used);
         }
-        Field::Refused(number, place) => print_refusal(rt, number, place),
+        Err(refusal) => print_refusal(rt, refusal.reason, refusal.place),
     }
-}
-
-fn print_method(rt: &impl Print, answer: Method) {
-    match answer {
-        Method::Parsed(count, part, used) => {
-            print_number(rt, b": accepted", count);
-            print_part(rt, part, used);
-        }
-        Method::Refused(number, place) => print_refusal(rt, number, place),
-    }
+    let _ = println!(rt);
 }
 
 // The lookup of each offset of a code and of the one past its end.
 fn show_lookups(rt: &impl Print, records: &[u32], count: usize, code: &[u8]) {
-    print(rt, b"; lookup");
-    let mut offset = 0;
-    while offset <= code.len() {
-        print_found(rt, lookup::find(records, count, CodeOffset(offset)));
-        offset += 1;
+    let _ = print!(rt; "; lookup");
+    for offset in 0..=code.len() {
+        match lookup::find(records, count, CodeOffset(offset)) {
+            Ok(Some(RecordIndex(index))) => {
+                let _ = print!(rt; " {index}");
+            }
+            Ok(None) => {
+                let _ = print!(rt; " -");
+            }
+            Err(refusal) => print_refusal(rt, refusal.reason, refusal.place.0),
+        }
     }
-}
-
-fn nops() -> [u8; 65536]
-    ensures { 65536 ≡ length result }
-{
-    [0; 65536]
 }
 
 // The stores have room for four records and three entries, and some words are left over.
 fn show_decoding(rt: &impl Print, code: &[u8], pool: &[u8]) {
-    let mut records = [9u32; 27];
-    let mut entries = [9u32; 7];
+    let mut records = [9; 27];
+    let mut entries = [9; 7];
     let answer = bytecode::decode(code, pool, &mut records, &mut entries);
-    print_decoded(rt, answer);
-    print_words(rt, b"; records", &records);
-    print_words(rt, b"; entries", &entries);
-    if let Decoded::Accepted(count, _) = answer {
-        show_lookups(rt, &records, count, code);
+    match answer {
+        Ok(decoded) => {
+            let _ = print!(rt; ": accepted {} {}", decoded.instructions, decoded.entries);
+        }
+        Err(failure) => {
+            print_refusal(rt, failure.reason, failure.place.0);
+            let _ = print!(rt; " second {}", failure.second);
+        }
     }
+    let _ = print!(rt; "; records");
+    print_words(rt, &records);
+    let _ = print!(rt; "; entries");
+    print_words(rt, &entries);
+    if let Ok(decoded) = answer {
+        show_lookups(rt, &records, decoded.instructions, code);
+    }
+    let _ = println!(rt);
 }
 
 fn show_code(rt: &impl Print, code: &[u8]) {
-    print_bytes(rt, b"code", code);
+    let _ = print!(rt; "code");
+    print_bytes(rt, code);
     show_decoding(rt, code, b"");
 }
 
 // A code of zeros, each a nop.
-fn show_nops(rt: &impl Print, length: usize)
-    requires { length ≤ 65536 }
+fn show_nops<const LENGTH: usize>(rt: &impl Print)
+    requires { LENGTH ≤ 65536 }
 {
-    let nops = nops();
-    print_number(rt, b"code of", length);
-    print(rt, b" nops");
-    show_decoding(rt, &nops[..length], b"");
+    let _ = print!(rt; "code of {LENGTH} nops");
+    show_decoding(rt, &[0; LENGTH], b"");
 }
 
 // A table of Integer entries, and a code that names the last of 4,096.
-fn show_pool(rt: &impl Print, length: usize)
-    requires { length ≤ 4097 }
+fn show_pool<const LENGTH: usize>(rt: &impl Print)
+    requires { LENGTH ≤ 4097 }
 {
-    let pool = [3u8; 4097];
-    let code = [0x13, 0x0f, 0xff, 0xb1];
-    print_number(rt, b"pool table of", length);
-    print_bytes(rt, b", code", &code);
-    show_decoding(rt, &code, &pool[..length]);
+    let code = b"\x13\x0f\xff\xb1";
+    let _ = print!(rt; "pool table of {LENGTH}, code");
+    print_bytes(rt, code);
+    show_decoding(rt, code, &[3; LENGTH]);
 }
 
-fn show_method(rt: &impl Print, text: &[u8]) {
-    let mut parameters = [9u32; 6];
-    print_text(rt, b"method", text);
-    print_method(rt, methods::method_whole(text, &mut parameters));
-    print_words(rt, b"; parameters", &parameters);
+fn show_method(rt: &impl Print, text: &str) {
+    let mut parameters = [9; 6];
+    let _ = print!(rt; "method `{text}`");
+    match methods::method_whole(text.as_bytes(), &mut parameters) {
+        Ok((method, used)) => {
+            let _ = print!(rt; ": accepted {}", method.parameters);
+            print_part(rt, method.returned, used);
+        }
+        Err(refusal) => print_refusal(rt, refusal.reason, refusal.place),
+    }
+    let _ = print!(rt; "; parameters");
+    print_words(rt, &parameters);
+    let _ = println!(rt);
 }
 
-fn show_field(rt: &impl Print, text: &[u8]) {
-    print_text(rt, b"field", text);
-    print_field(rt, descriptors::field_whole(text));
+fn show_field(rt: &impl Print, text: &str) {
+    let _ = print!(rt; "field `{text}`");
+    print_field(rt, descriptors::field_whole(text.as_bytes()));
 }
 
 fn show_dimensions(rt: &impl Print, dimensions: usize)
     requires { dimensions ≤ 256 }
 {
-    let mut text = [b'['; 257];
-    text[dimensions] = b'I';
-    print_number(rt, b"field of", dimensions);
-    print(rt, b" `[` and `I`");
-    print_field(rt, descriptors::field_whole(&text[..dimensions + 1]));
+    let mut text = [b'I'; 257];
+    text[..dimensions].fill(b'[');
+    let _ = print!(rt; "field of {dimensions} `[` and `I`");
+    print_field(rt, descriptors::field_whole(&text[..=dimensions]));
 }
 
-fn show_class_name(rt: &impl Print, text: &[u8]) {
-    print_text(rt, b"class name", text);
-    print_checked(rt, class_names::class_name(text));
+fn show_class_name(rt: &impl Print, text: &str) {
+    let _ = print!(rt; "class name `{text}`");
+    match class_names::class_name(text.as_bytes()) {
+        Ok(()) => {
+            let _ = print!(rt; ": accepted");
+        }
+        Err(refusal) => print_refusal(rt, refusal.reason, refusal.place),
+    }
+    let _ = println!(rt);
 }
 
 // The examples in document 01's order. The 65,535 nops are a neighbour: as many as a code may have, too many for the store.
-fn show_example(rt: &impl Print, number: usize) {
-    match number {
-        0 => show_code(rt, b"\x1a\x99\x00\x06\x84\x00\xff\xb1"),
-        // tableswitch, padding, the words 24, 0, 1, 24, 24, and return
-        1 => show_code(
-            rt,
-            b"\xaa\0\0\0\0\0\0\x18\0\0\0\0\0\0\0\x01\0\0\0\x18\0\0\0\x18\xb1",
-        ),
-        2 => show_code(rt, b""),
-        3 => show_code(rt, b"\xa7\x00\x03"),
-        4 => show_code(rt, b"\xa7\xff\xff"),
-        5 => show_code(rt, b"\x00\xc8\x7f\xff\xff\xff"),
-        6 => show_code(rt, b"\xc4\x00"),
-        7 => show_code(rt, b"\xbc\x03"),
-        8 => show_code(rt, b"\xbc\x0b"),
-        9 => show_method(rt, b"()VV"),
-        10 => show_field(rt, b"La/;"),
-        11 => show_field(rt, b"L;"),
-        12 => show_class_name(rt, b""),
-        13 => show_class_name(rt, b"a/"),
-        14 => show_nops(rt, 65536),
-        15 => show_nops(rt, 65535),
-        16 => show_pool(rt, 4096),
-        17 => show_pool(rt, 4097),
-        18 => show_class_name(rt, b";"),
-        19 => show_class_name(rt, b"a;"),
-        20 => show_dimensions(rt, 255),
-        21 => show_dimensions(rt, 256),
-        // tableswitch, padding, the default 0, the least low and the greatest high
-        _ => show_code(rt, b"\xaa\0\0\0\0\0\0\0\x80\0\0\0\x7f\xff\xff\xff"),
-    }
-    print(rt, b"\n");
-}
-
 fn main(rt: HostRuntime) {
-    let mut shown = 0;
-    while shown < EXAMPLES {
-        show_example(&rt, shown);
-        shown += 1;
-    }
-    print_number(&rt, b"examples:", shown);
-    print(&rt, b"\n");
+    let rt = &rt;
+    show_code(rt, b"\x1a\x99\x00\x06\x84\x00\xff\xb1");
+    // tableswitch, padding, the words 24, 0, 1, 24, 24, and return
+    show_code(
+        rt,
+        b"\xaa\0\0\0\0\0\0\x18\0\0\0\0\0\0\0\x01\0\0\0\x18\0\0\0\x18\xb1",
+    );
+    show_code(rt, b"");
+    show_code(rt, b"\xa7\x00\x03");
+    show_code(rt, b"\xa7\xff\xff");
+    show_code(rt, b"\x00\xc8\x7f\xff\xff\xff");
+    show_code(rt, b"\xc4\x00");
+    show_code(rt, b"\xbc\x03");
+    show_code(rt, b"\xbc\x0b");
+    show_method(rt, "()VV");
+    show_field(rt, "La/;");
+    show_field(rt, "L;");
+    show_class_name(rt, "");
+    show_class_name(rt, "a/");
+    show_nops::<65536>(rt);
+    show_nops::<65535>(rt);
+    show_pool::<4096>(rt);
+    show_pool::<4097>(rt);
+    show_class_name(rt, ";");
+    show_class_name(rt, "a;");
+    show_dimensions(rt, 255);
+    show_dimensions(rt, 256);
+    // tableswitch, padding, the default 0, the least low and the greatest high
+    show_code(rt, b"\xaa\0\0\0\0\0\0\0\x80\0\0\0\x7f\xff\xff\xff");
+    let _ = println!(rt; "examples: 23");
 }

@@ -17,7 +17,7 @@ use Rattle.opcodes.specs.Wide.{wide_forms, wide_form_of}
 use Rattle.opcodes.specs.Operands.{Operand, Layout, WideLayout, layout_of, wide_layout_of}
 use Rattle.ordinary.specs.declared.Instruction.{Instruction}
 use Rattle.ordinary.specs.declared.Instruction.TheVariants as instruction
-use Rattle.ordinary.specs.declared.Step.TheVariants as step
+use Rattle.std.specs.Prelude.{Some, Ok}
 use Rattle.switches.specs.Switches.{entry_count}
 use Rattle.switches.proofs.Counts.{counts_as}
 use Rattle.instruction.specs.Steps.{step_of}
@@ -81,17 +81,17 @@ after_wide byte os e = with_operands WideBare (λ byte. wide_layout_of (wide_for
 -- what an instruction says by its picture: an ordinary one has another kind, and the bounds of a table count its entries
 abbrev Told : Instruction → Type 0
 Told (instruction.Ordinary kind a b) = NoSwitch kind
-Told (instruction.TableSwitch default low high from count) = count ≡ entry_count low high
+Told (instruction.TableSwitch default low high from count) = Some count ≡ entry_count low high
 Told (instruction.LookupSwitch default from count) = Unit {0}
 
 told : (byte : ℕ) (at : CodeOffset) (l : Layout) → layout_of (format_of byte) ≡ l → (i : Instruction) (bytes : List ℕ) → Follows (kind_of byte) at l i bytes → Told i
 told byte at (Layout.operands os) laid i bytes p = subst Told (sym p.is) (same_kind byte (alone byte os laid))
 told byte at Layout.wide laid i bytes p = subst Told (sym p.picture.is) (after_wide p.byte p.operands p.form)
-told byte at Layout.table_switch laid i bytes p = subst Told (sym p.is) (sym (counts_as _ _ p.counted p.few))
+told byte at Layout.table_switch laid i bytes p = subst Told (sym p.is) (sym (counts_as _ _ p.counted p.some p.few))
 told byte at Layout.lookup_switch laid i bytes p = subst Told (sym p.is) tt
 told byte at Layout.none laid i bytes p = absurd p
 
-decoded : (code pool : List ℕ) (at : CodeOffset) (i : Instruction) (next : CodeOffset) → step_of code pool at ≡ step.Decoded i next → Told i
+decoded : (code pool : List ℕ) (at : CodeOffset) (i : Instruction) (next : CodeOffset) → step_of code pool at ≡ Ok (i, next) → Told i
 decoded code pool at i next e =
     let p = ((step_exactly code pool at i next).0 e).picture in
     told p.opcode (after 1 at) (layout_of (format_of p.opcode)) refl i p.rest p.follows

@@ -1,16 +1,16 @@
 // An instruction written into the two lent stores: its record, and a switch's entries.
 #![tactic(auto)]
 
-ghost use Rattle.std.specs.Prelude.{◌≡◌, ◌+◌, ◌*◌, ◌^◌, ◌≤◌, ◌<◌, length};
+ghost use Rattle.std.specs.Prelude.{◌≡◌, ◌+◌, ◌*◌, ◌^◌, ◌≤◌, ◌<◌, length, get_or};
 ghost use Rattle.std.proofs.lemmas.List.Edits.{sets};
 ghost use Rattle.records.specs.Records.{entry_words, entry_room, all_entry_words};
 ghost use Rattle.instruction.specs.Entries.{entries_of};
-ghost use Rattle.switches.specs.Entries.{table_from, pairs_from, entries_in, EntriesInside};
+ghost use Rattle.switches.specs.Entries.{entries_in, EntriesInside};
 ghost use Rattle.filling.specs.Filling.{record_of};
 
 use ordinary::Instruction;
 use read::CodeOffset;
-use records::{LOOKUP_SWITCH_KIND, Record, RecordIndex, SwitchEntry, TABLE_SWITCH_KIND, to_usize};
+use records::{LOOKUP_SWITCH_KIND, Record, RecordIndex, SwitchEntry, TABLE_SWITCH_KIND};
 
 // How many entries an instruction has.
 pub fn entries_of(instruction: Instruction) -> u32
@@ -58,65 +58,39 @@ pub fn record_of(at: CodeOffset, first: RecordIndex, instruction: Instruction) -
     }
 }
 
-// The entries of a table: so many jumps from an offset of the code on, the first with the key low and each with the next.
-fn put_table(
-    code: &[u8],
-    low: u32,
-    from: CodeOffset,
-    count: u32,
-    entries: &mut [u32],
-    first: RecordIndex,
-)
-    requires { (from.0 + 4 * count ≤ length code.now) × (first.0 + count ≤ entry_room entries.old) }
-    ensures { entries.new ≡ sets entries.old (first.0 * entry_words) (all_entry_words (table_from code.now low from count)) }
+// An entry of a switch whose entries lie in the code: a jump of a table, the first with the key low and each with the next, or
+// a key of a lookup with its jump.
+fn entry_in(code: &[u8], instruction: Instruction, i: usize) -> SwitchEntry
+    requires { EntriesInside code.now instruction × (i < entries_of instruction) }
+    ensures { result ≡ get_or (entries_in code.now instruction) i result }
 {
-    let number = to_usize(count);
-    let mut key = to_usize(low);
-    let mut at = from.0;
-    let mut i = 0;
-    while i < number {
-        let entry = SwitchEntry {
-            key: (key % 0x1_0000_0000) as u32,
-            jump: read::number_4(code, CodeOffset(at)),
-        };
-        records::put_entry(entries, RecordIndex(first.0 + i), entry);
-        key += 1;
-        at += 4;
-        i += 1;
-    }
-}
-
-// The pairs of a lookup: so many keys, each with its jump, from an offset of the code on.
-fn put_pairs(code: &[u8], from: CodeOffset, count: u32, entries: &mut [u32], first: RecordIndex)
-    requires { (from.0 + 8 * count ≤ length code.now) × (first.0 + count ≤ entry_room entries.old) }
-    ensures { entries.new ≡ sets entries.old (first.0 * entry_words) (all_entry_words (pairs_from code.now from count)) }
-{
-    let number = to_usize(count);
-    let mut at = from.0;
-    let mut i = 0;
-    while i < number {
-        let entry = SwitchEntry {
-            key: read::number_4(code, CodeOffset(at)),
-            jump: read::number_4(code, CodeOffset(at + 4)),
-        };
-        records::put_entry(entries, RecordIndex(first.0 + i), entry);
-        at += 8;
-        i += 1;
+    match instruction {
+        Instruction::Ordinary(_, _, _) => unreachable!(),
+        Instruction::TableSwitch(_, low, _, from, _) => SwitchEntry {
+            key: low.wrapping_add(i as u32),
+            jump: read::number::<4>(code, CodeOffset(from.0 + 4 * i)),
+        },
+        Instruction::LookupSwitch(_, from, _) => {
+            let at = from.0 + 8 * i;
+            SwitchEntry {
+                key: read::number::<4>(code, CodeOffset(at)),
+                jump: read::number::<4>(code, CodeOffset(at + 4)),
+            }
+        }
     }
 }
 
 // The entries of an instruction, at their indexes from the first on. Only a switch has any.
+#[tactic(auto, using(crate::proofs::Laws::filled_next, crate::proofs::Laws::filled_all, crate::proofs::Entries::all_entries))]
 pub fn put_entries(code: &[u8], instruction: Instruction, entries: &mut [u32], first: RecordIndex)
     requires { EntriesInside code.now instruction × (first.0 + entries_of instruction ≤ entry_room entries.old) }
     ensures { entries.new ≡ sets entries.old (first.0 * entry_words) (all_entry_words (entries_in code.now instruction)) }
 {
-    match instruction {
-        Instruction::Ordinary(_, _, _) => {}
-        Instruction::TableSwitch(_, low, _, from, count) => {
-            put_table(code, low, from, count, entries, first);
-        }
-        Instruction::LookupSwitch(_, from, count) => {
-            put_pairs(code, from, count, entries, first);
-        }
+    for i in 0..entries_of(instruction) as usize {
+        records::put_entry(
+            entries,
+            RecordIndex(first.0 + i),
+            entry_in(code, instruction, i),
+        );
     }
 }

@@ -1,9 +1,8 @@
 -- What an identifier is written for. The proofs are in proofs/Exactly.antt.
-use Rattle.std.specs.Prelude.{ℕ, ◌≤◌, true, List, ◌↔◌, ◌≡◌, length}
+use Rattle.std.specs.Prelude.{ℕ, ◌≤◌, true, List, ◌↔◌, ◌≡◌, length, Ok}
 use Rattle.laws.specs.Bytes.{text_limit}
 use Rattle.names.specs.Rules.{MethodName}
 use Rattle.methods.specs.Grammar.{MethodDescriptor, FewInMethod}
-use Rattle.output.specs.declared.Output.TheVariants as output
 use Rattle.identifier.specs.Identifier.{identifier_bytes, identifying}
 
 -- a valid name and a valid whole descriptor, each within the limit, and room for the identifier
@@ -19,4 +18,4 @@ pub record Identifies (name descriptor : List ℕ) (room n : ℕ) : Type 0 where
 -- proved as `identifies_exactly`
 abbrev pub IdentifiesExactly : Type 0
 IdentifiesExactly =
-    (name descriptor : List ℕ) (room n : ℕ) → (identifying name descriptor room ≡ output.Written n) ↔ Identifies name descriptor room n
+    (name descriptor : List ℕ) (room n : ℕ) → (identifying name descriptor room ≡ Ok n) ↔ Identifies name descriptor room n

@@ -1,200 +1,124 @@
-// Shows what the station would say of each method of a bundle, which is read from standard input.
+// Shows what the station would say of each method of a bundle, which is read from standard input. What cannot be written is
+// lost, and the program goes on.
 #![tactic(auto)]
 
 ghost use Rattle.std.specs.Prelude.{◌≡◌, ◌+◌, ◌≤◌, ◌<◌, length};
-ghost use Rattle.records.specs.Records.{entry_room};
-ghost use Rattle.lookup.specs.Lookup.{Sorted};
 ghost use Rattle.jumps.specs.Stored.{Held, AllHeld};
 ghost use Rattle.bundle.specs.Theorems.{SectionsInside};
 
-use bundle::{Next, Section, Sections};
-use bytecode::Decoded;
+use bundle::{Section, Sections};
+use bytecode::CODE_LIMIT;
+use laws::TEXT_LIMIT;
 use listing::LINE_ROOM;
+use lookup::SortedRecords;
 use output::Output;
-use records::{Record, RecordIndex, SwitchEntry, to_usize};
-use std::io::Read;
+use records::{ENTRY_WORDS, RECORD_WORDS, Record, RecordIndex};
+use refusals::Refusal;
 
 // The most bytes of a bundle that are shown.
-const BUNDLE_ROOM: usize = 1048576;
+const BUNDLE_ROOM: usize = 1 << 20;
 
-// The words of as many records as the longest code has bytes, and of more entries than it has words.
-const RECORD_ROOM: usize = 393210;
+// The words of as many records as the longest code has bytes, and of more entries than it has words of four bytes.
+const RECORD_ROOM: usize = CODE_LIMIT * RECORD_WORDS;
 
-const ENTRY_ROOM: usize = 32768;
+const ENTRY_ROOM: usize = (CODE_LIMIT + 1) / 4 * ENTRY_WORDS;
 
 // The bytes of the longest name and the longest descriptor.
-const IDENTIFIER_ROOM: usize = 131070;
+const IDENTIFIER_ROOM: usize = 2 * TEXT_LIMIT;
 
-// The bytes of a text that are shown at once, and the room for them where each is written as four.
-const CHUNK: usize = 1024;
+// The bytes of a text that are shown at once, each of which may be written as four.
+const CHUNK: usize = LINE_ROOM / 4;
 
-const CHUNK_ROOM: usize = 4096;
+// What is lent to the entries.
+#[derive(Drop)]
+struct Lent {
+    records: [u32; RECORD_ROOM],
+    entries: [u32; ENTRY_ROOM],
+    identifier: [u8; IDENTIFIER_ROOM],
+}
 
-fn bundle_buffer() -> [u8; BUNDLE_ROOM]
-    ensures { 1048576 ≡ length result }
+// Zeros of a store, made apart from who uses them: a proof there would count them one by one.
+fn zeros<T: Copy + From<u8>, const N: usize>() -> [T; N] {
+    [T::from(0); N]
+}
+
+// What a function writes at the front of a line.
+fn show<F: FnOnce(&mut [u8]) -> Output>(rt: &impl Print, write: F)
+    requires { F.IsAlwaysCallable write }
 {
-    [0; BUNDLE_ROOM]
-}
-
-fn record_store() -> [u32; RECORD_ROOM]
-    ensures { 393210 ≡ length result }
-{
-    [0; RECORD_ROOM]
-}
-
-fn entry_store() -> [u32; ENTRY_ROOM]
-    ensures { 32768 ≡ length result }
-{
-    [0; ENTRY_ROOM]
-}
-
-fn identifier_buffer() -> [u8; IDENTIFIER_ROOM]
-    ensures { 131070 ≡ length result }
-{
-    [0; IDENTIFIER_ROOM]
-}
-
-// What cannot be written is lost, and the program goes on.
-fn print(rt: &impl Print, bytes: &[u8]) {
-    let _ = rt.write_all(bytes);
-}
-
-fn print_number(rt: &impl Print, label: &[u8], number: usize) {
-    print(rt, label);
-    let _ = print!(rt; "{number}");
-}
-
-// What was written at the front of an output.
-fn print_written(rt: &impl Print, out: &[u8], answer: Output) {
-    if let Output::Written(length) = answer {
-        if length <= out.len() {
-            print(rt, &out[..length]);
-        }
-    }
-}
-
-fn show_chunk(rt: &impl Print, text: &[u8]) {
-    let mut out = [0u8; CHUNK_ROOM];
-    let answer = listing::shown(text, &mut out);
-    print_written(rt, &out, answer);
-}
-
-fn chunk_end(start: usize, length: usize) -> usize
-    requires { start < length }
-    ensures { (start < result) × (result ≤ length) }
-{
-    if length - start < CHUNK {
-        length
-    } else {
-        start + CHUNK
+    let mut line = [0; LINE_ROOM];
+    if let Ok(length) = write(&mut line)
+        && let Some(written) = line.get(..length)
+    {
+        let _ = rt.write_all(written);
     }
 }
 
 // A text of any length and of any bytes, none of which may steer the terminal.
 fn show_text(rt: &impl Print, text: &[u8]) {
-    let mut start = 0;
-    while start < text.len() {
-        let end = chunk_end(start, text.len());
-        show_chunk(rt, &text[start..end]);
-        start = end;
+    for chunk in text.chunks(CHUNK) {
+        show(rt, |line| listing::shown(chunk, line));
     }
 }
 
 fn show_refusal(rt: &impl Print, number: u32, place: usize, second: u32) {
-    let mut out = [0u8; LINE_ROOM];
-    let answer = listing::refused_line(number, place, second, &mut out);
-    print_written(rt, &out, answer);
+    show(
+        rt,
+        |line| listing::refused_line(number, place, second, line),
+    );
 }
 
-fn show_acceptance(rt: &impl Print, instructions: usize, entries: usize) {
-    let mut out = [0u8; LINE_ROOM];
-    let answer = listing::accepted_line(instructions, entries, &mut out);
-    print_written(rt, &out, answer);
-}
-
-fn show_sum(rt: &impl Print, methods: usize, accepted: usize)
-    requires { accepted ≤ methods }
-{
-    let mut out = [0u8; LINE_ROOM];
-    let answer = listing::sum_line(methods, accepted, methods - accepted, &mut out);
-    print_written(rt, &out, answer);
-}
-
-fn show_entry(rt: &impl Print, offset: u32, entry: SwitchEntry) {
-    let mut out = [0u8; LINE_ROOM];
-    let answer = listing::entry_line(offset, entry, &mut out);
-    print_written(rt, &out, answer);
-}
-
-// The entries of the switch at an offset, so many from the first on.
-fn show_entries(rt: &impl Print, offset: u32, entries: &[u32], first: usize, number: u32)
-    requires { first + number ≤ entry_room entries.now }
-{
-    let mut i = 0;
-    while i < number {
-        show_entry(
-            rt,
-            offset,
-            records::entry_at(entries, RecordIndex(first + to_usize(i))),
-        );
-        i += 1;
-    }
-}
-
+// An instruction and the entries that it has, if it is a switch.
 fn show_instruction(rt: &impl Print, code: &[u8], pool: &[u8], entries: &[u32], stored: Record)
     requires { Held entries.now stored }
 {
-    let mut out = [0u8; LINE_ROOM];
-    let answer = listing::instruction_line(code, pool, stored, &mut out);
-    print_written(rt, &out, answer);
-    show_entries(
+    show(
         rt,
-        stored.offset,
-        entries,
-        to_usize(stored.d),
-        jumps::stored_entries(stored),
+        |line| listing::instruction_line(code, pool, stored, line),
     );
+    let first = stored.d as usize;
+    for i in 0..jumps::stored_entries(stored) {
+        let entry = records::entry_at(entries, RecordIndex(first + i as usize));
+        show(rt, |line| listing::entry_line(stored.offset, entry, line));
+    }
 }
 
 fn show_instructions(
     rt: &impl Print,
     code: &[u8],
     pool: &[u8],
-    records: &[u32],
-    count: usize,
+    sorted: SortedRecords<'_>,
     entries: &[u32],
 )
-    requires { Sorted records.now count × AllHeld records.now count entries.now }
+    requires { AllHeld sorted.records.now sorted.count entries.now }
 {
-    let mut i = 0;
-    while i < count {
-        show_instruction(
-            rt,
-            code,
-            pool,
-            entries,
-            records::record_at(records, RecordIndex(i)),
-        );
-        i += 1;
+    for i in 0..sorted.count {
+        let stored = records::record_at(sorted.records, RecordIndex(i));
+        show_instruction(rt, code, pool, entries, stored);
     }
 }
 
 // Whether a code is accepted, with its listing if it is.
-fn show_code(
-    rt: &impl Print,
-    code: &[u8],
-    pool: &[u8],
-    records: &mut [u32],
-    entries: &mut [u32],
-) -> bool {
-    match bytecode::decode(code, pool, records, entries) {
-        Decoded::Accepted(count, stored) => {
-            show_acceptance(rt, count, stored);
-            show_instructions(rt, code, pool, &*records, count, &*entries);
+fn show_code(rt: &impl Print, code: &[u8], pool: &[u8], lent: &mut Lent) -> bool {
+    match bytecode::decode(code, pool, &mut lent.records, &mut lent.entries) {
+        Ok(decoded) => {
+            let count = decoded.instructions;
+            show(
+                rt,
+                |line| listing::accepted_line(count, decoded.entries, line),
+            );
+            let records = &lent.records;
+            show_instructions(
+                rt,
+                code,
+                pool,
+                SortedRecords { records, count },
+                &lent.entries,
+            );
             true
         }
-        Decoded::Refused(number, place, second) => {
-            show_refusal(rt, number, place.0, second);
+        Err(failure) => {
+            show_refusal(rt, failure.reason.number(), failure.place.0, failure.second);
             false
         }
     }
@@ -202,6 +126,7 @@ fn show_code(
 
 // Whether the method at an offset has an identifier: it heads the line on the code. A method without one is named by its
 // offset in the bundle, after a line that says why.
+#[tactic(auto, using(crate::proofs::Laws::identifier_fits))]
 fn show_identifier(
     rt: &impl Print,
     at: usize,
@@ -210,17 +135,16 @@ fn show_identifier(
     out: &mut [u8],
 ) -> bool {
     match identifier::method_identifier(name, descriptor, out) {
-        Output::Written(length) => {
-            show_text(rt, &out[..length]);
-            print(rt, b": ");
+        Ok(length) => {
+            let (text, _) = out.split_at(length);
+            show_text(rt, text);
+            let _ = print!(rt; ": ");
             true
         }
-        Output::Refused(number, place) => {
-            print_number(rt, b"method at byte ", at);
-            print(rt, b", identifier: ");
-            show_refusal(rt, number, place, 0);
-            print_number(rt, b"method at byte ", at);
-            print(rt, b": ");
+        Err(Refusal { reason, place }) => {
+            let _ = print!(rt; "method at byte {at}, identifier: ");
+            show_refusal(rt, reason.number(), place, 0);
+            let _ = print!(rt; "method at byte {at}: ");
             false
         }
     }
@@ -229,9 +153,7 @@ fn show_identifier(
 fn bytes_of(bundle: &[u8], section: Section) -> &[u8]
     requires { (section.start ≤ section.end) × (section.end ≤ length bundle.now) }
 {
-    let start = section.start;
-    let end = section.end;
-    &bundle[start..end]
+    &bundle[section.start..section.end]
 }
 
 // Whether a method is accepted: its identifier and its code.
@@ -240,9 +162,7 @@ fn show_method(
     bundle: &[u8],
     at: usize,
     sections: Sections,
-    records: &mut [u32],
-    entries: &mut [u32],
-    identifier: &mut [u8],
+    lent: &mut Lent,
 ) -> bool
     requires { SectionsInside bundle.now at sections }
 {
@@ -250,16 +170,10 @@ fn show_method(
     let descriptor = bytes_of(bundle, sections.descriptor);
     let pool = bytes_of(bundle, sections.pool);
     let code = bytes_of(bundle, sections.code);
-    let identified = show_identifier(rt, at, name, descriptor, identifier);
-    let decoded = show_code(rt, code, pool, records, entries);
-    print(rt, b"\n");
-    identified & decoded
-}
-
-fn one_if(accepted: bool) -> usize
-    ensures { result ≤ 1 }
-{
-    if accepted { 1 } else { 0 }
+    let identified = show_identifier(rt, at, name, descriptor, &mut lent.identifier);
+    let decoded = show_code(rt, code, pool, lent);
+    let _ = println!(rt);
+    identified && decoded
 }
 
 // How far a bundle was shown, and how many methods that were, with how many of them accepted.
@@ -270,78 +184,54 @@ struct Shown {
     accepted: usize,
 }
 
-fn show_methods(
-    rt: &impl Print,
-    bundle: &[u8],
-    records: &mut [u32],
-    entries: &mut [u32],
-    identifier: &mut [u8],
-) -> Shown
+fn show_methods(rt: &impl Print, bundle: &[u8], lent: &mut Lent) -> Shown
     ensures { result.accepted ≤ result.methods }
 {
     let mut at = 0;
     let mut methods = 0;
     let mut accepted = 0;
-    loop {
-        let Next::Method(sections) = bundle::next_method(bundle, at) else {
-            return Shown {
-                at: at,
-                methods: methods,
-                accepted: accepted,
-            };
-        };
-        accepted += one_if(show_method(rt, bundle, at, sections, records, entries, identifier));
+    // No `for`: each method says where the next one starts.
+    while let Ok(Some(sections)) = bundle::next_method(bundle, at) {
+        if show_method(rt, bundle, at, sections, lent) {
+            accepted += 1;
+        }
         methods += 1;
         at = sections.code.end;
+    }
+    Shown {
+        at,
+        methods,
+        accepted,
     }
 }
 
 // What keeps the bytes from an offset on from being shown, if there are any.
 fn show_rest(rt: &impl Print, bundle: &[u8], at: usize, more: bool) {
     if more {
-        print_number(rt, b"byte ", at);
-        print_number(rt, b": the bundle is larger than ", BUNDLE_ROOM);
-        print(rt, b" bytes; what follows is not shown\n");
-        return;
+        let _ = println!(rt;
+            "byte {at}: the bundle is larger than {BUNDLE_ROOM} bytes; what follows is not shown"
+        );
+    } else if let Err(cut) = bundle::next_method(bundle, at) {
+        let _ = println!(rt; "byte {}: the bundle is cut short here", cut.place);
     }
-    if let Next::CutShort(place) = bundle::next_method(bundle, at) {
-        print_number(rt, b"byte ", place);
-        print(rt, b": the bundle is cut short here\n");
-    }
-}
-
-// Reads until the buffer is full, the input ends or a read fails: how many bytes it put at the front.
-fn read_full<R: Read>(input: &mut R, buffer: &mut [u8]) -> usize
-    ensures { result ≤ length buffer.new }
-{
-    let mut done = 0;
-    while done < buffer.len() {
-        let Ok(count) = input.read(&mut buffer[done..]) else {
-            return done;
-        };
-        if count == 0 {
-            return done;
-        }
-        done += count;
-    }
-    done
-}
-
-// Whether there is more to read.
-fn is_more<R: Read>(input: &mut R) -> bool {
-    let mut next = [0u8; 1];
-    0 < read_full(input, &mut next)
 }
 
 fn main(rt: HostRuntime) {
-    let mut bundle = bundle_buffer();
-    let mut records = record_store();
-    let mut entries = entry_store();
-    let mut identifier = identifier_buffer();
-    let mut input = rt.reader();
-    let size = read_full(&mut input, &mut bundle);
-    let read = &bundle[..size];
-    let shown = show_methods(&rt, read, &mut records, &mut entries, &mut identifier);
-    show_rest(&rt, read, shown.at, is_more(&mut input));
-    show_sum(&rt, shown.methods, shown.accepted);
+    let mut room = zeros::<u8, BUNDLE_ROOM>();
+    let mut lent = Lent {
+        records: zeros(),
+        entries: zeros(),
+        identifier: zeros(),
+    };
+    let mut reader = rt.reader();
+    let size = input::read_full(&mut reader, &mut room);
+    let bundle = &room[..size];
+    let shown = show_methods(&rt, bundle, &mut lent);
+    let more = input::read_full(&mut reader, &mut [0]) > 0;
+    show_rest(&rt, bundle, shown.at, more);
+    let refused = shown.methods - shown.accepted;
+    show(
+        &rt,
+        |line| listing::sum_line(shown.methods, shown.accepted, refused, line),
+    );
 }

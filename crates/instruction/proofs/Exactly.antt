@@ -6,18 +6,18 @@ use mathlib.Core.Path.{◌≡◌, refl, sym, ap, ◌∙◌, subst}
 use native.Mathlib.Omega.{arith}
 use lib.ListN.{length}
 use Rattle.read.specs.declared.CodeOffset.{CodeOffset}
-use Rattle.read.specs.declared.Read.{Read}
-use Rattle.read.specs.Reads.{after, read_of}
+use Rattle.std.specs.Prelude.{Ok}
+use Rattle.read.specs.Reads.{Read, after, read_of}
 use Rattle.opcodes.specs.Formats.{format_of}
 use Rattle.opcodes.specs.InstructionKinds.{kind_of}
 use Rattle.opcodes.specs.Operands.{Layout, layout_of}
 use Rattle.operands.specs.Pictures.{Stand}
+use Rattle.operands.proofs.Parts.{clash}
 use Rattle.operands.proofs.Exactly.{byte_there, byte_read}
 use Rattle.operands.proofs.Standing.{stand_join, stand_part}
 use Rattle.ordinary.specs.declared.Instruction.{Instruction}
-use Rattle.ordinary.specs.declared.Step.TheVariants as step
 use Rattle.ordinary.specs.Ordinary.{then_read}
-use Rattle.ordinary.proofs.Exactly.{clash, then_found, operands_exactly, wide_exactly, further}
+use Rattle.ordinary.proofs.Exactly.{then_found, operands_exactly, wide_exactly, further}
 use Rattle.switches.proofs.Exactly.{table_exactly, lookup_exactly, table_length, lookup_length}
 use Rattle.instruction.specs.Steps.{laid_out, step_of}
 use Rattle.instruction.specs.Pictures.{Follows, NamedAfter, StandsAt}
@@ -33,7 +33,7 @@ module _ (code pool : List ℕ) (kind : ℕ) (place : CodeOffset) (at : CodeOffs
     stand : Stand code at bytes
     ends : next ≡ after (length bytes) at
 
-  after_exactly : (l : Layout) → (laid_out code pool kind place at l ≡ step.Decoded i next) ↔ After l
+  after_exactly : (l : Layout) → (laid_out code pool kind place at l ≡ Ok (i, next)) ↔ After l
   after_exactly (Layout.operands os) =
       let exactly = operands_exactly code pool kind os at i next h in
       (λ e. let p = exactly.0 e in record { bytes = p.0; follows = p.1; named = p.2; stand = p.3; ends = p.4 }, λ a. exactly.1 (a.bytes, a.follows, a.named, a.stand, a.ends))
@@ -46,7 +46,7 @@ module _ (code pool : List ℕ) (kind : ℕ) (place : CodeOffset) (at : CodeOffs
   after_exactly Layout.lookup_switch =
       let exactly = lookup_exactly code at i next in
       (λ e. let p = exactly.0 e in record { bytes = p.0; follows = p.1; named = tt; stand = p.2; ends = p.3 }, λ a. exactly.1 (a.bytes, a.follows, a.stand, a.ends))
-  after_exactly Layout.none = (λ e. absurd (clash 4 place i next e), λ a. absurd a.follows)
+  after_exactly Layout.none = (λ e. absurd (clash e), λ a. absurd a.follows)
 
 one_more : (at : CodeOffset) (n : ℕ) → after n (after 1 at) ≡ after (suc n) at
 one_more at n = further at 1 n ∙ ap (λ (k : ℕ). after k at) (let same : 1 + n ≡ suc n = omega arith in same)
@@ -55,11 +55,11 @@ pub step_exactly : StepExactly
 unfolding step_of
 step_exactly code pool at i next = (to, from)
   where
-    to : then_read (read_of 1 code at) (λ byte mid. laid_out code pool (kind_of byte) at mid (layout_of (format_of byte))) ≡ step.Decoded i next → StandsAt code pool at i next
+    to : then_read (read_of 1 code at) (λ byte mid. laid_out code pool (kind_of byte) at mid (layout_of (format_of byte))) ≡ Ok (i, next) → StandsAt code pool at i next
     to e =
         let f = then_found (read_of 1 code at) _ i next e in
         let b = byte_there code at f.value f.mid f.reads in
-        let decodes : laid_out code pool (kind_of f.value) at (after 1 at) (layout_of (format_of f.value)) ≡ step.Decoded i next = subst (λ (m : CodeOffset). laid_out code pool (kind_of f.value) at m (layout_of (format_of f.value)) ≡ step.Decoded i next) b.1 f.decodes in
+        let decodes : laid_out code pool (kind_of f.value) at (after 1 at) (layout_of (format_of f.value)) ≡ Ok (i, next) = subst (λ (m : CodeOffset). laid_out code pool (kind_of f.value) at m (layout_of (format_of f.value)) ≡ Ok (i, next)) b.1 f.decodes in
         let a = (after_exactly code pool (kind_of f.value) at (after 1 at) b.0.within i next (layout_of (format_of f.value))).0 decodes in
         record {
           bytes = f.value ∷ a.bytes;
@@ -69,7 +69,7 @@ step_exactly code pool at i next = (to, from)
           place = a.ends ∙ one_more at (length a.bytes);
         }
 
-    from : StandsAt code pool at i next → then_read (read_of 1 code at) (λ byte mid. laid_out code pool (kind_of byte) at mid (layout_of (format_of byte))) ≡ step.Decoded i next
+    from : StandsAt code pool at i next → then_read (read_of 1 code at) (λ byte mid. laid_out code pool (kind_of byte) at mid (layout_of (format_of byte))) ≡ Ok (i, next)
     from s =
         let p = s.picture in
         let parts = stand_part code at (p.opcode ∷ []) p.rest (subst (Stand code at) p.drawn s.stand) in

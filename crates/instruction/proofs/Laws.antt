@@ -6,9 +6,10 @@ use native.Mathlib.Omega.{arith}
 use lib.ListN.{length, get_or}
 use lib.Seq.{drop-cons}
 use Rattle.read.specs.declared.CodeOffset.{CodeOffset}
-use Rattle.read.specs.declared.Read.{Read}
-use Rattle.read.specs.declared.Read.TheVariants as read
-use Rattle.read.specs.Reads.{big_endian, bytes_at, after, read_of}
+use Rattle.std.specs.Prelude.{Ok, Err}
+use Rattle.refusals.specs.declared.Reason.TheVariants as reason
+use Rattle.refusals.specs.Numbers.{refused}
+use Rattle.read.specs.Reads.{Read, big_endian, bytes_at, after, read_of}
 use Rattle.read.proofs.Laws.{read_past, read_found}
 use Rattle.pool.specs.declared.Kinds.{Kinds}
 use Rattle.opcodes.specs.declared.Follow.{Follow}
@@ -20,20 +21,18 @@ use Rattle.opcodes.specs.InstructionKinds.{kind_of}
 use Rattle.opcodes.specs.Operands.{Meaning, Operand, layout_of, follow_of, wide_layout_of}
 use Rattle.opcodes.specs.Wide.{wide_form_of}
 use Rattle.operands.specs.Checks.{index_read}
-use Rattle.ordinary.specs.declared.Step.{Step}
-use Rattle.ordinary.specs.declared.Step.TheVariants as step
 use Rattle.ordinary.specs.Ordinary as ordinary
-use Rattle.ordinary.specs.Ordinary.{then_read, operands_from, indexed, wide_step}
+use Rattle.ordinary.specs.Ordinary.{Step, then_read, operands_from, indexed, wide_step}
 use Rattle.instruction.specs.Steps.{laid_out, step_of}
 
 module _ (code pool : List ℕ) where
   follow_alone : (kind : ℕ) (f : Follow) (index : Read) → indexed code kind (follow_of f) index ≡ then_read index (λ i next. operands_from code pool kind (i ∷ []) (follow_of f) next)
   unfolding operands_from
-  follow_alone kind f (read.Refused n p) = refl
-  follow_alone kind follow.Nothing (read.Value i next) = refl
-  follow_alone kind follow.Count (read.Value i next) = refl
-  follow_alone kind follow.CountAndZero (read.Value i next) = refl
-  follow_alone kind follow.TwoZeros (read.Value i next) = refl
+  follow_alone kind f (Err r) = refl
+  follow_alone kind follow.Nothing (Ok found) = refl
+  follow_alone kind follow.Count (Ok found) = refl
+  follow_alone kind follow.CountAndZero (Ok found) = refl
+  follow_alone kind follow.TwoZeros (Ok found) = refl
 
   pub index_and_follow : (kind : ℕ) (kinds : Kinds) (f : Follow) (at : CodeOffset) {found index : Read} {r : Step} → found ≡ read_of 2 code at → index ≡ index_read pool kinds at found → r ≡ indexed code kind (follow_of f) index → r ≡ operands_from code pool kind [] (Operand.bytes 2 (Meaning.index kinds) ∷ follow_of f) at
   unfolding operands_from
@@ -49,11 +48,11 @@ module _ (code pool : List ℕ) where
       laid byte next wide.NoInstruction = refl
 
       go : (r : Read) → then_read r (λ byte next. ordinary.widened code [] byte at next) ≡ then_read r (λ byte next. ordinary.widened code pool byte at next)
-      go (read.Refused n p) = refl
-      go (read.Value byte next) = laid byte next (wide_form_of byte)
+      go (Err r) = refl
+      go (Ok found) = laid found.0 found.1 (wide_form_of found.0)
 
   -- the opcode
-  pub past_end : (at : CodeOffset) → length code ≤ at.0 → step.Refused 3 at ≡ step_of code pool at
+  pub past_end : (at : CodeOffset) → length code ≤ at.0 → Err (refused reason.PastEnd at) ≡ step_of code pool at
   unfolding step_of
   past_end at h = sym (rw (read_past 1 code at (omega arith), step_of))
 
@@ -64,5 +63,5 @@ module _ (code pool : List ℕ) where
       number : get_or code at.0 0 ≡ big_endian (bytes_at 1 code at.0)
       number = rw (drop-cons code at.0 0) (omega arith)
 
-      byte : read_of 1 code at ≡ read.Value (get_or code at.0 0) (after 1 at)
-      byte = read_found 1 code at (omega arith) ∙ ap (λ (b : ℕ). read.Value b (after 1 at)) (sym number)
+      byte : read_of 1 code at ≡ Ok (get_or code at.0 0, after 1 at)
+      byte = read_found 1 code at (omega arith) ∙ ap (λ (b : ℕ). Ok (b, after 1 at)) (sym number)

@@ -10,33 +10,32 @@ use lib.Dec.{leb}
 use lib.ListN.{length, get_or}
 use Rattle.laws.specs.Bytes.{In}
 use Rattle.read.specs.declared.CodeOffset.{CodeOffset}
-use Rattle.read.specs.declared.Read.{Read}
-use Rattle.read.specs.declared.Read.TheVariants as read
-use Rattle.read.specs.Reads.{after, read_of}
-use Rattle.pool.specs.declared.Entry.{Entry}
-use Rattle.pool.specs.Entries.{entry_at, of_kind}
+use Rattle.std.specs.Prelude.{Option, Ok, Err}
+use Rattle.refusals.specs.declared.Reason.{Reason}
+use Rattle.read.specs.Reads.{Read, after, read_of}
+use Rattle.pool.specs.Entries.{Entry, entry_at, of_kind}
 use Rattle.opcodes.specs.Formats.{format_of}
 use Rattle.opcodes.specs.InstructionKinds.{kind_of}
 use Rattle.opcodes.specs.Operands.{Meaning, Operand, Layout, layout_of}
 use Rattle.operands.specs.Checks.{unless_fault, fault_in, meant, operand_at}
+use Rattle.operands.proofs.Parts.{same_end}
 use Rattle.operands.proofs.Exactly.{finds, operand_exactly}
-use Rattle.ordinary.specs.declared.Step.{Step}
-use Rattle.ordinary.specs.Ordinary.{then_read, operands_from}
+use Rattle.ordinary.specs.Ordinary.{Step, then_read, operands_from}
 use Rattle.instruction.specs.Steps.{laid_out, step_of}
 use Rattle.instruction.specs.Names.{index_of, indexes_from, indexes_in}
 use Rattle.instruction.specs.Theorems.{StepPool}
 use Rattle.instruction.proofs.Laws.{wide_alone, past_end, at_opcode}
 
 -- two ways to go on that agree on what the read found
-then_same : (r : Read) {f g : ℕ → CodeOffset → Step} → ((v : ℕ) (next : CodeOffset) → r ≡ read.Value v next → f v next ≡ g v next) → then_read r f ≡ then_read r g
-then_same (read.Value v next) same = same v next refl
-then_same (read.Refused n place) same = refl
+then_same : (r : Read) {f g : ℕ → CodeOffset → Step} → ((v : ℕ) (next : CodeOffset) → r ≡ Ok (v, next) → f v next ≡ g v next) → then_read r f ≡ then_read r g
+then_same (Ok found) same = same found.0 found.1 refl
+then_same (Err r) same = refl
 
 -- two faults that do
-unless_same : {fault other : ℕ → ℕ} (at : CodeOffset) (found : Read) → ((v : ℕ) (next : CodeOffset) → found ≡ read.Value v next → fault v ≡ other v) → unless_fault fault at found ≡ unless_fault other at found
+unless_same : {fault other : ℕ → Option Reason} (at : CodeOffset) (found : Read) → ((v : ℕ) (next : CodeOffset) → found ≡ Ok (v, next) → fault v ≡ other v) → unless_fault fault at found ≡ unless_fault other at found
 unfolding unless_fault
-unless_same at (read.Value v next) same = ap (λ (k : ℕ). unless_fault (λ x. k) at (read.Value v next)) (same v next refl)
-unless_same at (read.Refused n place) same = refl
+unless_same at (Ok found) same = ap (λ (k : Option Reason). unless_fault (λ x. k) at (Ok found)) (same found.0 found.1 refl)
+unless_same at (Err r) same = refl
 
 module _ (code pool other : List ℕ) where
   -- the tables agree on the entries at these indexes
@@ -61,9 +60,9 @@ module _ (code pool other : List ℕ) where
   operand_same (Operand.implied v) os at agree = refl
   operand_same (Operand.bytes n meaning) os at agree = meant_same n meaning at (λ i m. agree.1 i (Memᴰ.append_left (indexes_from code (at.0 + n) os) m))
 
-  agree_after : (o : Operand) (os : List Operand) (at : CodeOffset) (v : ℕ) (next : CodeOffset) → operand_at code pool o at ≡ read.Value v next → AgreeFrom (o ∷ os) at → AgreeFrom os next
+  agree_after : (o : Operand) (os : List Operand) (at : CodeOffset) (v : ℕ) (next : CodeOffset) → operand_at code pool o at ≡ Ok (v, next) → AgreeFrom (o ∷ os) at → AgreeFrom os next
   unfolding indexes_from
-  agree_after (Operand.implied k) os at v next e agree = subst (AgreeFrom os) (let same : at ≡ next = cc in same) agree
+  agree_after (Operand.implied k) os at v next e agree = subst (AgreeFrom os) (same_end e) agree
   agree_after (Operand.bytes n meaning) os at v next e agree =
       let s = (operand_exactly code pool (Operand.bytes n meaning) at v next agree.0).0 e in
       let size : length s.bytes ≡ n = s.drawn.0 in

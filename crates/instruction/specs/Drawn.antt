@@ -1,6 +1,6 @@
 -- The entries of an instruction as its picture draws them, and that those which are read from the code are the same. The proof
 -- is in proofs/Drawn.antt.
-use Rattle.std.specs.Prelude.{ℕ, List, [], ◌↔◌, ◌≡◌}
+use Rattle.std.specs.Prelude.{ℕ, List, [], ◌↔◌, ◌≡◌, Ok}
 use Rattle.read.specs.declared.CodeOffset.{CodeOffset}
 use Rattle.read.specs.Reads.{after}
 use Rattle.opcodes.specs.Formats.{format_of}
@@ -8,7 +8,6 @@ use Rattle.opcodes.specs.InstructionKinds.{kind_of}
 use Rattle.opcodes.specs.Operands.{Layout, layout_of}
 use Rattle.records.specs.declared.SwitchEntry.{SwitchEntry}
 use Rattle.ordinary.specs.declared.Instruction.{Instruction}
-use Rattle.ordinary.specs.declared.Step.TheVariants as step
 use Rattle.switches.specs.Entries.{entries_in}
 use Rattle.instruction.specs.Steps.{step_of}
 use Rattle.instruction.specs.Pictures.{Follows, Picture, StandsAt}
@@ -28,5 +27,5 @@ drawn_entries {at} {i} {bytes} p = drawn_after (kind_of p.opcode) (after 1 at) (
 -- `entries_drawn`
 abbrev pub EntriesDrawn : Type 0
 EntriesDrawn =
-    (code pool : List ℕ) (at : CodeOffset) (i : Instruction) (next : CodeOffset) (es : List SwitchEntry) → step_of code pool at ≡ step.Decoded i next
+    (code pool : List ℕ) (at : CodeOffset) (i : Instruction) (next : CodeOffset) (es : List SwitchEntry) → step_of code pool at ≡ Ok (i, next)
     → (entries_in code i ≡ es) ↔ ((s : StandsAt code pool at i next) × (drawn_entries s.picture ≡ es))

@@ -1,10 +1,12 @@
 -- Worked steps: the code, and what stands at its offset 0 or at another. Proved in proofs/Examples.antt.
-use Rattle.std.specs.Prelude.{ℕ, List, [], ◌∷◌, ◌++◌}
+use Rattle.std.specs.Prelude.{ℕ, List, [], ◌∷◌, ◌++◌, Ok, Err}
 use Rattle.laws.specs.Examples.{Computes}
 use Rattle.read.specs.declared.CodeOffset.{CodeOffset}
 use Rattle.ordinary.specs.declared.Instruction.TheVariants as instruction
-use Rattle.ordinary.specs.declared.Step.{Step}
-use Rattle.ordinary.specs.declared.Step.TheVariants as step
+use Rattle.ordinary.specs.Ordinary.{Step}
+use Rattle.refusals.specs.declared.Reason.{Reason}
+use Rattle.refusals.specs.declared.Reason.TheVariants as reason
+use Rattle.refusals.specs.Numbers.{refused}
 use Rattle.instruction.specs.Steps.{step_of}
 
 abbrev offset : ℕ → CodeOffset
@@ -15,10 +17,10 @@ abbrev pool : List ℕ
 pool = 0 ∷ 3 ∷ 9 ∷ 10 ∷ 11 ∷ 18 ∷ 7 ∷ 0 ∷ []
 
 abbrev ordinary : ℕ → ℕ → ℕ → ℕ → Step
-ordinary kind a b next = step.Decoded (instruction.Ordinary kind a b) (offset next)
+ordinary kind a b next = Ok (instruction.Ordinary kind a b, offset next)
 
-abbrev refused : ℕ → ℕ → Step
-refused number place = step.Refused number (offset place)
+abbrev refusal : Reason → ℕ → Step
+refusal why place = Err (refused why (offset place))
 
 abbrev first : List ℕ → Step
 first code = step_of code pool (offset 0)
@@ -67,29 +69,29 @@ FormatsCompute =
 abbrev pub RefusalsCompute : Type 0
 RefusalsCompute =
     Computes first (
-    ([], refused 3 0)
-    ∷ (0x10 ∷ [], refused 3 1)
-    ∷ (0x11 ∷ 0 ∷ [], refused 3 1)
-    ∷ (0x84 ∷ 1 ∷ [], refused 3 2)
-    ∷ (0xc4 ∷ [], refused 3 1)
-    ∷ (0xc4 ∷ 0x84 ∷ 0 ∷ 1 ∷ 0 ∷ [], refused 3 4)
-    ∷ (0xb9 ∷ 0 ∷ 4 ∷ [], refused 3 3)
-    ∷ (0xb9 ∷ 0 ∷ 4 ∷ 1 ∷ [], refused 3 4)
-    ∷ (0xba ∷ 0 ∷ 5 ∷ 0 ∷ [], refused 3 3)
-    ∷ (0xcb ∷ [], refused 4 0)
-    ∷ (0xfd ∷ [], refused 4 0)
-    ∷ (0xc4 ∷ 0 ∷ [], refused 5 1)
-    ∷ (0xc4 ∷ 0xc4 ∷ [], refused 5 1)
-    ∷ (0x12 ∷ 0 ∷ [], refused 6 1)
-    ∷ (0xb2 ∷ 0 ∷ 8 ∷ [], refused 6 1)
-    ∷ (0xb2 ∷ 0 ∷ 3 ∷ [], refused 7 1)
-    ∷ (0x12 ∷ 7 ∷ [], refused 7 1)
+    ([], refusal reason.PastEnd 0)
+    ∷ (0x10 ∷ [], refusal reason.PastEnd 1)
+    ∷ (0x11 ∷ 0 ∷ [], refusal reason.PastEnd 1)
+    ∷ (0x84 ∷ 1 ∷ [], refusal reason.PastEnd 2)
+    ∷ (0xc4 ∷ [], refusal reason.PastEnd 1)
+    ∷ (0xc4 ∷ 0x84 ∷ 0 ∷ 1 ∷ 0 ∷ [], refusal reason.PastEnd 4)
+    ∷ (0xb9 ∷ 0 ∷ 4 ∷ [], refusal reason.PastEnd 3)
+    ∷ (0xb9 ∷ 0 ∷ 4 ∷ 1 ∷ [], refusal reason.PastEnd 4)
+    ∷ (0xba ∷ 0 ∷ 5 ∷ 0 ∷ [], refusal reason.PastEnd 3)
+    ∷ (0xcb ∷ [], refusal reason.NotAnInstruction 0)
+    ∷ (0xfd ∷ [], refusal reason.NotAnInstruction 0)
+    ∷ (0xc4 ∷ 0 ∷ [], refusal reason.NotAfterWide 1)
+    ∷ (0xc4 ∷ 0xc4 ∷ [], refusal reason.NotAfterWide 1)
+    ∷ (0x12 ∷ 0 ∷ [], refusal reason.NoEntry 1)
+    ∷ (0xb2 ∷ 0 ∷ 8 ∷ [], refusal reason.NoEntry 1)
+    ∷ (0xb2 ∷ 0 ∷ 3 ∷ [], refusal reason.WrongKind 1)
+    ∷ (0x12 ∷ 7 ∷ [], refusal reason.WrongKind 1)
     -- the index is judged before what follows it is read
-    ∷ (0xb9 ∷ 0 ∷ 3 ∷ [], refused 7 1)
-    ∷ (0xb9 ∷ 0 ∷ 4 ∷ 1 ∷ 1 ∷ [], refused 8 4)
-    ∷ (0xba ∷ 0 ∷ 5 ∷ 0 ∷ 1 ∷ [], refused 8 3)
-    ∷ (0xbc ∷ 3 ∷ [], refused 9 1)
-    ∷ (0xbc ∷ 12 ∷ [], refused 9 1)
+    ∷ (0xb9 ∷ 0 ∷ 3 ∷ [], refusal reason.WrongKind 1)
+    ∷ (0xb9 ∷ 0 ∷ 4 ∷ 1 ∷ 1 ∷ [], refusal reason.NotZero 4)
+    ∷ (0xba ∷ 0 ∷ 5 ∷ 0 ∷ 1 ∷ [], refusal reason.NotZero 3)
+    ∷ (0xbc ∷ 3 ∷ [], refusal reason.NoArrayTag 1)
+    ∷ (0xbc ∷ 12 ∷ [], refusal reason.NoArrayTag 1)
     ∷ [])
 
 -- the code of a switch: bytes before it, its opcode, padding and words
@@ -111,24 +113,24 @@ abbrev pub SwitchesCompute : Type 0
 SwitchesCompute =
     Computes (λ (q : ℕ × List ℕ). step_of q.1 pool (offset q.0)) (
     -- padding of three bytes, of any value, and of none
-    ((0, 0xaa ∷ 1 ∷ 2 ∷ 3 ∷ word 24 ++ word 0 ++ word 1 ++ word 24 ++ word 24), step.Decoded (instruction.TableSwitch 24 0 1 (offset 16) 2) (offset 24))
-    ∷ ((3, 0 ∷ 0 ∷ 0 ∷ 0xaa ∷ word 9 ++ word 5 ++ word 5 ++ word 9), step.Decoded (instruction.TableSwitch 9 5 5 (offset 16) 1) (offset 20))
+    ((0, 0xaa ∷ 1 ∷ 2 ∷ 3 ∷ word 24 ++ word 0 ++ word 1 ++ word 24 ++ word 24), Ok (instruction.TableSwitch 24 0 1 (offset 16) 2, offset 24))
+    ∷ ((3, 0 ∷ 0 ∷ 0 ∷ 0xaa ∷ word 9 ++ word 5 ++ word 5 ++ word 9), Ok (instruction.TableSwitch 9 5 5 (offset 16) 1, offset 20))
     -- from -1 to 0
-    ∷ ((3, 0 ∷ 0 ∷ 0 ∷ 0xaa ∷ word 9 ++ minus_one ++ word 0 ++ word 9 ++ word 9), step.Decoded (instruction.TableSwitch 9 0xffff_ffff 0 (offset 16) 2) (offset 24))
+    ∷ ((3, 0 ∷ 0 ∷ 0 ∷ 0xaa ∷ word 9 ++ minus_one ++ word 0 ++ word 9 ++ word 9), Ok (instruction.TableSwitch 9 0xffff_ffff 0 (offset 16) 2, offset 24))
     -- low > high, and more entries than a signed word counts, at the high word
-    ∷ ((3, 0 ∷ 0 ∷ 0 ∷ 0xaa ∷ word 9 ++ word 1 ++ word 0), refused 10 12)
-    ∷ ((3, 0 ∷ 0 ∷ 0 ∷ 0xaa ∷ word 9 ++ least ++ largest), refused 10 12)
-    ∷ ((3, 0 ∷ 0 ∷ 0 ∷ 0xaa ∷ word 9 ++ word 0 ++ largest), refused 10 12)
+    ∷ ((3, 0 ∷ 0 ∷ 0 ∷ 0xaa ∷ word 9 ++ word 1 ++ word 0), refusal reason.BadBounds 12)
+    ∷ ((3, 0 ∷ 0 ∷ 0 ∷ 0xaa ∷ word 9 ++ least ++ largest), refusal reason.BadBounds 12)
+    ∷ ((3, 0 ∷ 0 ∷ 0 ∷ 0xaa ∷ word 9 ++ word 0 ++ largest), refusal reason.BadBounds 12)
     -- so many are allowed, and the first does not fit
-    ∷ ((3, 0 ∷ 0 ∷ 0 ∷ 0xaa ∷ word 9 ++ word 1 ++ largest), refused 3 16)
+    ∷ ((3, 0 ∷ 0 ∷ 0 ∷ 0xaa ∷ word 9 ++ word 1 ++ largest), refusal reason.PastEnd 16)
     -- the second of two entries is cut short; padding past the end
-    ∷ ((3, 0 ∷ 0 ∷ 0 ∷ 0xaa ∷ word 9 ++ word 0 ++ word 1 ++ word 9 ++ 0 ∷ 0 ∷ 0 ∷ []), refused 3 20)
-    ∷ ((0, 0xaa ∷ []), refused 3 4)
-    ∷ ((0, 0xaa ∷ 0 ∷ 0 ∷ 0 ∷ word 9 ++ word 0), refused 3 12)
+    ∷ ((3, 0 ∷ 0 ∷ 0 ∷ 0xaa ∷ word 9 ++ word 0 ++ word 1 ++ word 9 ++ 0 ∷ 0 ∷ 0 ∷ []), refusal reason.PastEnd 20)
+    ∷ ((0, 0xaa ∷ []), refusal reason.PastEnd 4)
+    ∷ ((0, 0xaa ∷ 0 ∷ 0 ∷ 0 ∷ word 9 ++ word 0), refusal reason.PastEnd 12)
     -- no pairs, and one whose keys need no order
-    ∷ ((3, 0 ∷ 0 ∷ 0 ∷ 0xab ∷ word 9 ++ word 0), step.Decoded (instruction.LookupSwitch 9 (offset 12) 0) (offset 12))
-    ∷ ((3, 0 ∷ 0 ∷ 0 ∷ 0xab ∷ word 9 ++ word 1 ++ minus_one ++ word 9), step.Decoded (instruction.LookupSwitch 9 (offset 12) 1) (offset 20))
+    ∷ ((3, 0 ∷ 0 ∷ 0 ∷ 0xab ∷ word 9 ++ word 0), Ok (instruction.LookupSwitch 9 (offset 12) 0, offset 12))
+    ∷ ((3, 0 ∷ 0 ∷ 0 ∷ 0xab ∷ word 9 ++ word 1 ++ minus_one ++ word 9), Ok (instruction.LookupSwitch 9 (offset 12) 1, offset 20))
     -- a negative count, at the count; a pair cut short at its jump
-    ∷ ((3, 0 ∷ 0 ∷ 0 ∷ 0xab ∷ word 9 ++ least), refused 11 8)
-    ∷ ((3, 0 ∷ 0 ∷ 0 ∷ 0xab ∷ word 9 ++ word 1 ++ word 7 ++ 0 ∷ []), refused 3 16)
+    ∷ ((3, 0 ∷ 0 ∷ 0 ∷ 0xab ∷ word 9 ++ least), refusal reason.NegativeCount 8)
+    ∷ ((3, 0 ∷ 0 ∷ 0 ∷ 0xab ∷ word 9 ++ word 1 ++ word 7 ++ 0 ∷ []), refusal reason.PastEnd 16)
     ∷ [])

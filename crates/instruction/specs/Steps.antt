@@ -1,14 +1,14 @@
--- One instruction, JVMS 6.5 by format: the opcode, then what the format lays out after it. Document 01's numbers and
+-- One instruction, JVMS 6.5 by format: the opcode, then what the format lays out after it. Document 01's reasons and
 -- places come with each read; 4 is the opcode's own.
-use Rattle.std.specs.Prelude.{ℕ, List, []}
+use Rattle.std.specs.Prelude.{ℕ, List, [], Err}
 use Rattle.read.specs.declared.CodeOffset.{CodeOffset}
 use Rattle.read.specs.Reads.{read_of}
 use Rattle.opcodes.specs.Formats.{format_of}
 use Rattle.opcodes.specs.InstructionKinds.{kind_of}
 use Rattle.opcodes.specs.Operands.{Layout, layout_of}
-use Rattle.ordinary.specs.declared.Step.{Step}
-use Rattle.ordinary.specs.declared.Step.TheVariants as step
-use Rattle.ordinary.specs.Ordinary.{then_read, operands_from, wide_step}
+use Rattle.refusals.specs.declared.Reason.TheVariants as reason
+use Rattle.refusals.specs.Numbers.{refused}
+use Rattle.ordinary.specs.Ordinary.{Step, then_read, operands_from, wide_step}
 use Rattle.switches.specs.Switches.{table_step, lookup_step}
 
 -- what follows an opcode of this kind that stands at a place. 4: the byte is no instruction
@@ -17,7 +17,7 @@ laid_out code pool kind place at (Layout.operands os) = operands_from code pool 
 laid_out code pool kind place at Layout.wide = wide_step code pool at
 laid_out code pool kind place at Layout.table_switch = table_step code at
 laid_out code pool kind place at Layout.lookup_switch = lookup_step code at
-laid_out code pool kind place at Layout.none = step.Refused 4 place
+laid_out code pool kind place at Layout.none = Err (refused reason.NotAnInstruction place)
 
 -- The instruction at an offset, and the offset after it
 unfoldable pub step_of : List ℕ → List ℕ → CodeOffset → Step

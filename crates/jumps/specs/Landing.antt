@@ -2,6 +2,8 @@
 use Rattle.std.specs.Prelude.{ℕ, ◌≡◌, ℤ, pos, negsuc, length}
 use mathlib.Core.List.{List, ◌∷◌, ◌++◌, Memᴰ}
 use Rattle.laws.specs.Bytes.{In}
+use Rattle.refusals.specs.declared.Reason.{Reason}
+use Rattle.refusals.specs.declared.Reason.TheVariants as reason
 use Rattle.read.specs.declared.CodeOffset.{CodeOffset}
 use Rattle.jumps.specs.Jumps.{Jumps, target_of, starts_of}
 
@@ -14,13 +16,13 @@ pub record Lands (starts : List ℕ) (target : ℤ) : Type 0 where
 abbrev pub AllLand : List ℕ → CodeOffset → List ℕ → Type 0
 AllLand starts at words = (word : ℕ) → In word words → Lands starts (target_of at word)
 
--- a target fails with a number
-pub data Fails (starts : List ℕ) (target : ℤ) (number : ℕ) : Type 0 where
-  below_zero : (t : ℕ) → target ≡ negsuc t → number ≡ 12 → Fails starts target number
-  nowhere : (t : ℕ) → target ≡ pos t → (In t starts → ⊥) → number ≡ 13 → Fails starts target number
+-- a target fails for a reason
+pub data Fails (starts : List ℕ) (target : ℤ) (why : Reason) : Type 0 where
+  below_zero : (t : ℕ) → target ≡ negsuc t → why ≡ reason.BelowZero → Fails starts target why
+  nowhere : (t : ℕ) → target ≡ pos t → (In t starts → ⊥) → why ≡ reason.NoTarget → Fails starts target why
 
 -- the jump that fails, with every jump before it landing
-pub record FirstFailing (js : List Jumps) (number : ℕ) (place : CodeOffset) (second : ℕ) : Type 0 where
+pub record FirstFailing (js : List Jumps) (why : Reason) (place : CodeOffset) (second : ℕ) : Type 0 where
   pub before : List Jumps
   pub at : Jumps
   pub after : List Jumps
@@ -31,6 +33,6 @@ pub record FirstFailing (js : List Jumps) (number : ℕ) (place : CodeOffset) (s
   pub later : List ℕ
   pub words : at.words ≡ earlier ++ (word ∷ later)
   pub earlier_land : AllLand (starts_of js) at.at earlier
-  pub fails : Fails (starts_of js) (target_of at.at word) number
+  pub fails : Fails (starts_of js) (target_of at.at word) why
   pub placed : place ≡ at.at
   pub counted : second ≡ length earlier

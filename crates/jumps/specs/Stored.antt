@@ -1,5 +1,5 @@
 -- The jumps that the words of two stores say, by each record's own words (document 01, "Instructions as records").
-use Rattle.std.specs.Prelude.{ℕ, ◌+◌, ◌≤◌, ◌<◌, Bool, true, false, ◌&&◌, ◌||◌, List, [], ◌∷◌, leb, eqb}
+use Rattle.std.specs.Prelude.{ℕ, ◌+◌, ◌≤◌, ◌<◌, Bool, true, false, ◌&&◌, ◌||◌, List, [], ◌∷◌, leb, eqb, unwrap_or}
 use Rattle.laws.specs.Listed.{listed}
 use Rattle.records.specs.declared.Record.{Record}
 use Rattle.records.specs.declared.RecordIndex.{RecordIndex}
@@ -15,7 +15,7 @@ has_jump kind = (leb 0x99 kind && leb kind 0xa8) || (leb 0xaa kind && leb kind 0
 unfoldable pub stored_entries : Record → ℕ
 stored_entries r =
     elim (eqb r.kind 0xaa) [
-      | true ↦ entry_count r.b r.c
+      | true ↦ unwrap_or (entry_count r.b r.c) 0
       | false ↦ elim (eqb r.kind 0xab) [ true ↦ r.b | false ↦ 0 ]
     ]
 

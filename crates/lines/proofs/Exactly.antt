@@ -8,8 +8,8 @@ use borrow.Author.Tests.{leb-true, leb-false}
 use lib.Dec.{leb}
 use lib.ListN.{length}
 use Rattle.read.specs.declared.CodeOffset.{CodeOffset}
-use Rattle.ordinary.specs.declared.Step.{Step}
-use Rattle.ordinary.specs.declared.Step.TheVariants as step
+use Rattle.std.specs.Prelude.{Ok, Err}
+use Rattle.ordinary.specs.Ordinary.{Step}
 use Rattle.instruction.specs.Steps.{step_of}
 use Rattle.instruction.proofs.Exactly.{step_within}
 use Rattle.lines.specs.Lines.{Lines, lines_from, Consecutive}
@@ -29,11 +29,12 @@ module _ (code pool : List ℕ) where
   reads_consecutive (suc most) at h k = go (leb (length code) at.0) refl (reads_consecutive most)
     where
       on : at.0 < length code → (s : Step) → step_of code pool at ≡ s → Reads most → Consecutive code pool at (lines_from code pool (suc most) at)
-      on inside (step.Decoded i next) e rest =
-          let w = step_within code pool at i next e in
+      on inside (Ok found) e rest =
+          let next = found.1 in
+          let w = step_within code pool at found.0 next e in
           let fewer : length code ≤ next.0 + most = omega (arith, w.longer) in
           subst (Consecutive code pool at) (sym (lines_more code pool at most inside e)) (refl, inside, e, rest next w.ends fewer)
-      on inside (step.Refused n p) e rest = subst (Consecutive code pool at) (sym (lines_stop code pool at most inside e)) (inside, e)
+      on inside (Err r) e rest = subst (Consecutive code pool at) (sym (lines_stop code pool at most inside e)) (inside, e)
 
       go : (t : Bool) → leb (length code) at.0 ≡ t → Reads most → Consecutive code pool at (lines_from code pool (suc most) at)
       go true q rest =
@@ -51,8 +52,8 @@ module _ (code pool : List ℕ) where
       lines_more code pool at most f.1 f.2
       ∙ ap₂ Lines.line (ap (λ (a : CodeOffset). record { at = a; instruction = l.instruction; next = l.next }) (sym f.0)) (consecutive_read rest most l.next fewer f.3)
   consecutive_read Lines.end most at k f = let past : length code ≤ at.0 = omega (arith, f) in lines_end code pool at most past
-  consecutive_read (Lines.stop n p) zero at k f = let inside : at.0 < length code = f.0 in absurd (omega arith)
-  consecutive_read (Lines.stop n p) (suc most) at k f = lines_stop code pool at most f.0 f.1
+  consecutive_read (Lines.stop r) zero at k f = let inside : at.0 < length code = f.0 in absurd (omega arith)
+  consecutive_read (Lines.stop r) (suc most) at k f = lines_stop code pool at most f.0 f.1
 
 pub lines_exactly : LinesExactly
 lines_exactly code pool ls = (

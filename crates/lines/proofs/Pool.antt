@@ -9,8 +9,8 @@ use lib.ListN.{length}
 use Rattle.laws.specs.Bytes.{In}
 use Rattle.read.specs.declared.CodeOffset.{CodeOffset}
 use Rattle.pool.specs.Entries.{entry_at}
-use Rattle.ordinary.specs.declared.Step.{Step}
-use Rattle.ordinary.specs.declared.Step.TheVariants as step
+use Rattle.std.specs.Prelude.{Ok, Err}
+use Rattle.ordinary.specs.Ordinary.{Step}
 use Rattle.instruction.specs.Steps.{step_of}
 use Rattle.instruction.specs.Names.{names_at}
 use Rattle.instruction.proofs.Pool.{step_pool}
@@ -28,11 +28,11 @@ module _ (code pool other : List ℕ) (agree : (at : CodeOffset) → Reached cod
   lines_same (suc most) at r = go (leb (length code) at.0) refl (lines_same most)
     where
       on : at.0 < length code → (s : Step) → step_of code pool at ≡ s → step_of code other at ≡ s → Same most → lines_from code pool (suc most) at ≡ lines_from code other (suc most) at
-      on inside (step.Decoded i next) e f rest =
+      on inside (Ok found) e f rest =
           lines_more code pool at most inside e
-          ∙ ap (Lines.line (record { at = at; instruction = i; next = next })) (rest next (Reached.next r e))
+          ∙ ap (Lines.line (record { at = at; instruction = found.0; next = found.1 })) (rest found.1 (Reached.next r e))
           ∙ sym (lines_more code other at most inside f)
-      on inside (step.Refused n p) e f rest = lines_stop code pool at most inside e ∙ sym (lines_stop code other at most inside f)
+      on inside (Err why) e f rest = lines_stop code pool at most inside e ∙ sym (lines_stop code other at most inside f)
 
       go : (past : Bool) → leb (length code) at.0 ≡ past → Same most → lines_from code pool (suc most) at ≡ lines_from code other (suc most) at
       go true q rest = lines_end code pool at (suc most) (leb-true _ _ q) ∙ sym (lines_end code other at (suc most) (leb-true _ _ q))

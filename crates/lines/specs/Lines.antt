@@ -1,9 +1,9 @@
 -- The instructions of a code, JVMS 4.9.1 and 6.5: the first starts at 0, each starts where the one before it ends, and the
 -- last ends with the code. Nothing here knows a store.
-use Rattle.std.specs.Prelude.{ℕ, zero, suc, ◌<◌, true, false, List, [], ◌∷◌, ◌≡◌, ltb, length}
+use Rattle.std.specs.Prelude.{ℕ, zero, suc, ◌<◌, true, false, List, [], ◌∷◌, ◌≡◌, ltb, length, Ok, Err}
 use Rattle.read.specs.declared.CodeOffset.{CodeOffset}
 use Rattle.ordinary.specs.declared.Instruction.{Instruction}
-use Rattle.ordinary.specs.declared.Step.TheVariants as step
+use Rattle.refusals.specs.declared.Refusal.{Refusal}
 use Rattle.instruction.specs.Steps.{step_of}
 
 -- an instruction, the offset where it starts and the offset after it
@@ -16,7 +16,7 @@ pub record Line : Type 0 where
 pub data Lines : Type 0 where
   line : Line → Lines → Lines
   end : Lines
-  stop : (number : ℕ) (place : CodeOffset) → Lines
+  stop : Refusal CodeOffset → Lines
 
 -- What stands from an offset on. An instruction has a byte at least, so `most` that starts as the code's length never
 -- comes to zero before the code's end
@@ -25,8 +25,8 @@ lines_from code pool zero at = Lines.end
 lines_from code pool (suc most) at =
     elim (ltb at.0 (length code)) [
       | true ↦ elim (step_of code pool at) [
-        | step.Decoded i next ↦ Lines.line (record { at = at; instruction = i; next = next }) (lines_from code pool most next)
-        | step.Refused n p ↦ Lines.stop n p
+        | Ok found ↦ Lines.line (record { at = at; instruction = found.0; next = found.1 }) (lines_from code pool most found.1)
+        | Err r ↦ Lines.stop r
       ]
       | false ↦ Lines.end
     ]
@@ -38,17 +38,17 @@ lines_of code pool = lines_from code pool (length code) (record { 0 = 0 })
 unfoldable pub list_of : Lines → List Line
 list_of (Lines.line l rest) = l ∷ list_of rest
 list_of Lines.end = []
-list_of (Lines.stop n p) = []
+list_of (Lines.stop r) = []
 
 -- Consecutive lines from an offset on: each is what stands in the code where the one before it ends. They end
 -- exactly with the code, or where the first refusal is
 abbrev pub Consecutive : List ℕ → List ℕ → CodeOffset → Lines → Type 0
 Consecutive code pool at (Lines.line l rest) =
-    (l.at ≡ at) × (at.0 < length code) × (step_of code pool at ≡ step.Decoded l.instruction l.next) × Consecutive code pool l.next rest
+    (l.at ≡ at) × (at.0 < length code) × (step_of code pool at ≡ Ok (l.instruction, l.next)) × Consecutive code pool l.next rest
 Consecutive code pool at Lines.end = at.0 ≡ length code
-Consecutive code pool at (Lines.stop n p) = (at.0 < length code) × (step_of code pool at ≡ step.Refused n p)
+Consecutive code pool at (Lines.stop r) = (at.0 < length code) × (step_of code pool at ≡ Err r)
 
 -- An offset where an instruction of the code stands, where the first refused one does, or where the code ends
 pub data Reached (code pool : List ℕ) : CodeOffset → Type 0 where
   first : Reached code pool (record { 0 = 0 })
-  next : {at after : CodeOffset} {i : Instruction} → Reached code pool at → step_of code pool at ≡ step.Decoded i after → Reached code pool after
+  next : {at after : CodeOffset} {i : Instruction} → Reached code pool at → step_of code pool at ≡ Ok (i, after) → Reached code pool after

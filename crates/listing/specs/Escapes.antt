@@ -1,9 +1,9 @@
 -- A text that a terminal may show, whatever bytes it holds: every byte but 20 to 7e, and the backslash itself, as \xNN.
-use Rattle.std.specs.Prelude.{ℕ, ◌+◌, ◌-◌, ◌/◌, ◌%◌, Bool, true, false, not, ◌&&◌, List, [], ◌∷◌, ◌++◌, eqb, leb, ltb, length}
+use Rattle.std.specs.Prelude.{ℕ, ◌+◌, ◌-◌, ◌/◌, ◌%◌, Bool, true, false, not, ◌&&◌, List, [], ◌∷◌, ◌++◌, eqb, leb, ltb, length, Ok, Err}
 use Rattle.laws.specs.Bytes.{byte}
-use Rattle.output.specs.declared.Output.{Output}
-use Rattle.output.specs.declared.Output.TheVariants as output
-use Rattle.output.specs.Output.{output_after}
+use Rattle.refusals.specs.declared.Reason.TheVariants as reason
+use Rattle.refusals.specs.Numbers.{refused}
+use Rattle.output.specs.Output.{Output, output_after}
 
 abbrev pub backslash : ℕ
 backslash = 0x5c
@@ -23,7 +23,7 @@ shown_text (b ∷ text) = shown_byte b ++ shown_text text
 
 -- 33: the output has fewer than 4 bytes for each of the text's
 unfoldable pub showing : List ℕ → ℕ → Output
-showing text room = elim (ltb (room / 4) (length text)) [ true ↦ output.Refused 33 0 | false ↦ output.Written (length (shown_text text)) ]
+showing text room = elim (ltb (room / 4) (length text)) [ true ↦ Err (refused reason.TooShort 0) | false ↦ Ok (length (shown_text text)) ]
 
 -- the output afterwards
 abbrev pub shown_output : List ℕ → List ℕ → List ℕ

@@ -1,9 +1,10 @@
 -- Worked lines. Proved in proofs/Examples.antt.
-use Rattle.std.specs.Prelude.{ℕ, List, [], ◌∷◌, ◌++◌, replicate}
+use Rattle.std.specs.Prelude.{ℕ, List, [], ◌∷◌, ◌++◌, replicate, Ok, Err}
 use Rattle.laws.specs.Bytes.{ascii}
 use Rattle.laws.specs.Examples.{Computes}
 use Rattle.records.specs.declared.Record.{Record}
-use Rattle.output.specs.declared.Output.TheVariants as output
+use Rattle.refusals.specs.declared.Reason.TheVariants as reason
+use Rattle.refusals.specs.Numbers.{refused}
 use Rattle.listing.specs.Lines.{lining, newline, instruction_line, entry_line, accepted_line, refused_line, sum_line}
 
 abbrev words : ℕ → ℕ → ℕ → ℕ → ℕ → Record
@@ -83,4 +84,4 @@ SumLineComputes = Computes (λ (e : ℕ × ℕ × ℕ). sum_line e.0 e.1 e.2) ((
 
 -- the room that a line of nine bytes must find: proved as `rooms_compute`
 abbrev pub RoomsCompute : Type 0
-RoomsCompute = Computes (lining (ascii "a line...")) ((160, output.Written 9) ∷ (159, output.Refused 33 0) ∷ [])
+RoomsCompute = Computes (lining (ascii "a line...")) ((160, Ok 9) ∷ (159, Err (refused reason.TooShort 0)) ∷ [])

@@ -1,19 +1,18 @@
 -- The lines of a listing, as javap's: an offset in a column of 8, the mnemonic in one of 16 where operands follow, then the
 -- operands.
-use Rattle.std.specs.Prelude.{ℕ, true, false, List, [], ◌∷◌, ◌++◌, ltb, length, get_or}
+use Rattle.std.specs.Prelude.{ℕ, true, false, List, [], ◌∷◌, ◌++◌, ltb, length, get_or, Ok, Err}
 use Rattle.laws.specs.Bytes.{ascii}
 use Rattle.opcodes.specs.declared.Format.{Format}
 use Rattle.opcodes.specs.Formats.{format_of}
 use Rattle.records.specs.declared.Record.{Record}
 use Rattle.records.specs.declared.SwitchEntry.{SwitchEntry}
-use Rattle.output.specs.declared.Output.{Output}
-use Rattle.output.specs.declared.Output.TheVariants as output
-use Rattle.output.specs.Output.{output_after}
+use Rattle.refusals.specs.declared.Reason.TheVariants as reason
+use Rattle.refusals.specs.Numbers.{refused}
+use Rattle.output.specs.Output.{Output, output_after}
 use Rattle.phrases.specs.Numbers.{decimal, signed, pad_left, pad_right}
 use Rattle.mnemonics.specs.Mnemonics.{mnemonic_of}
-use Rattle.wording.specs.Names.{or_else}
 use Rattle.wording.specs.Operands.{target, counted, named, operands_of, has_operands}
-use Rattle.listing.specs.Meanings.{meaning_of}
+use Rattle.listing.specs.Meanings.{meaning_or_none}
 
 -- The room that a line must find, whatever its own length. No line is longer
 abbrev pub line_room : ℕ
@@ -21,7 +20,7 @@ line_room = 160
 
 -- 33: the output is too short
 unfoldable pub lining : List ℕ → ℕ → Output
-lining line room = elim (ltb room line_room) [ true ↦ output.Refused 33 0 | false ↦ output.Written (length line) ]
+lining line room = elim (ltb room line_room) [ true ↦ Err (refused reason.TooShort 0) | false ↦ Ok (length line) ]
 
 -- the output afterwards
 abbrev pub line_output : List ℕ → List ℕ → List ℕ
@@ -59,12 +58,12 @@ accepted_line instructions entries =
     ascii "accepted, " ++ counted instructions (ascii " instruction") (ascii " instructions")
     ++ ascii ", " ++ counted entries (ascii " switch entry") (ascii " switch entries") ++ newline
 
-abbrev pub refusal : ℕ → ℕ → ℕ → List ℕ
+unfoldable pub refusal : ℕ → ℕ → ℕ → List ℕ
 refusal number place second = ascii "refused, " ++ decimal number ++ ascii " at " ++ decimal place ++ ascii ", second number " ++ decimal second
 
 abbrev pub refused_line : ℕ → ℕ → ℕ → List ℕ
 refused_line number place second =
-    refusal number place second ++ ascii ": " ++ or_else (meaning_of number) (ascii "a number without a meaning") ++ newline
+    refusal number place second ++ ascii ": " ++ meaning_or_none number ++ newline
 
 abbrev pub sum_line : ℕ → ℕ → ℕ → List ℕ
 sum_line methods accepted refused =

@@ -2,7 +2,7 @@
 use Rattle.std.specs.Prelude.{ℕ, List, [], ◌∷◌, map, get_or}
 use Prim.Native.String.{String}
 use Rattle.laws.specs.Bytes.{ascii}
-use Rattle.phrases.specs.Texts.{table}
+use Rattle.wording.specs.Names.{or_else}
 
 -- the refusals by their numbers, 1 to 15 and 21 to 35
 unfoldable pub meanings : List String
@@ -48,8 +48,9 @@ meanings =
     ∷ "the records are not all there, or not in order"
     ∷ []
 
-unfoldable pub meaning_table : List ℕ
-meaning_table = table (map ascii meanings)
-
 unfoldable pub meaning_of : ℕ → List ℕ
 meaning_of number = get_or (map ascii meanings) number []
+
+-- what is shown for a number
+unfoldable pub meaning_or_none : ℕ → List ℕ
+meaning_or_none number = or_else (meaning_of number) (ascii "a number without a meaning")

@@ -1,27 +1,29 @@
-// The lines of a listing like javap's, written at the front of a lent output. Each piece of a line is written from an
-// offset on, and the answer is the offset after it.
-#![tactic(auto)]
+// The lines of a listing like javap's, written at the front of a lent output.
+#![tactic(auto, using(phrases::proofs::Wrote::pieces, crate::proofs::Laws::entry))]
 
-ghost use Rattle.std.specs.Prelude.{◌≡◌, ◌+◌, ◌*◌, ◌≤◌, ◌<◌, length};
-ghost use Rattle.laws.specs.Bytes.{ascii};
+ghost use Rattle.std.specs.Prelude.{◌≡◌, ◌++◌, ◌+◌, ◌≤◌, ◌<◌, length, MatchResult};
+ghost use Rattle.refusals.specs.declared.Reason.TheVariants.{TooShort};
+ghost use Rattle.refusals.specs.Numbers.{refused};
 ghost use Rattle.opcodes.specs.Formats.{format_of};
-ghost use Rattle.phrases.specs.Puts.{Puts};
-ghost use Rattle.phrases.specs.Numbers.{pad_right};
+ghost use Rattle.phrases.specs.Wrote.{HasRoom, Wrote};
+ghost use Rattle.phrases.specs.Numbers.{decimal, pad_right};
 ghost use Rattle.mnemonics.specs.Mnemonics.{mnemonic_of};
-ghost use Rattle.wording.specs.Names.{or_else};
 ghost use Rattle.wording.specs.Operands.{named};
-ghost use Rattle.listing.specs.Meanings.{meaning_table, meaning_of};
-ghost use Rattle.listing.specs.Lines.{instruction, shown_at, lining, line_output, instruction_line, entry_line, accepted_line, refusal, refused_line, sum_line};
-ghost use Rattle.listing.specs.Escapes.{hex_digit, is_plain, shown_byte, shown_text, showing, shown_output};
+ghost use Rattle.listing.specs.Meanings.{meaning_or_none};
+ghost use Rattle.listing.specs.Lines.{line_room, instruction, shown_at, lining, line_output, instruction_line, entry_line, accepted_line, refusal, refused_line, sum_line};
+ghost use Rattle.listing.specs.Escapes.{hex_digit, is_plain, shown_byte, showing, shown_output};
 
-use output::{Output, TOO_SHORT};
+use output::Output;
+use phrases::Line;
 use records::{Record, SwitchEntry};
+use refusals::{Reason, Refusal};
+use wording::{put_counted, put_operands, put_target};
 
 // The room that a line must find. On paper: `line_room`.
 pub const LINE_ROOM: usize = 160;
 
 // The meanings of the refusals by their numbers.
-const MEANINGS: [u8; 1087] = *b"|\
+const MEANINGS: &[u8] = b"|\
     the code is over 65,535 bytes|\
     the pool table is over 4,096 entries|\
     the code ends within an instruction|\
@@ -54,140 +56,93 @@ const MEANINGS: [u8; 1087] = *b"|\
     the parts break the rules of a descriptor|\
     the records are not all there, or not in order|";
 
-fn meanings() -> [u8; 1087]
-    ensures { result ≡ meaning_table }
+#[tactic(auto, using(phrases::proofs::Wrote::pieces, crate::proofs::Tables::meant, crate::proofs::Tables::meaning_short, crate::proofs::Tables::has_meaning))]
+fn put_meaning(line: &mut Line<'_>, number: u32)
+    requires { HasRoom 50 line.old }
+    ensures { Wrote 50 line.old (meaning_or_none number) line.new }
 {
-    MEANINGS
-}
-
-fn put_meaning(number: u32, out: &mut [u8], at: usize) -> usize
-    requires { at + 50 ≤ length out.old }
-    ensures { Puts 50 out.old at (or_else (meaning_of number) (ascii "a number without a meaning")) out.new result }
-{
-    let table = meanings();
-    let end = phrases::put_item(&table, number as usize, out, at);
-    if end == at {
-        return phrases::put_text(b"a number without a meaning", out, at);
+    let start = line.length;
+    line.item(MEANINGS, number as usize);
+    if line.length == start {
+        line.text(b"a number without a meaning");
     }
-    end
 }
 
 // The mnemonic in its column.
-fn put_column(byte: u8, out: &mut [u8], at: usize) -> usize
-    requires { at + 31 ≤ length out.old }
-    ensures { Puts 31 out.old at (pad_right 16 (mnemonic_of byte)) out.new result }
+#[tactic(auto, using(phrases::proofs::Wrote::pieces), unfolding(phrases::specs::Numbers::pad_right))]
+fn put_column(line: &mut Line<'_>, byte: u8)
+    requires { HasRoom 31 line.old }
+    ensures { Wrote 31 line.old (pad_right 16 (mnemonic_of byte)) line.new }
 {
-    let end = mnemonics::put_mnemonic(byte, out, at);
-    phrases::put_blanks(phrases::missing(16, end - at), out, end)
+    let end = line.length + 16;
+    mnemonics::put_mnemonic(line, byte);
+    line.blanks(end - line.length);
 }
 
 // The mnemonic of an instruction without operands.
-fn put_byte_name(byte: u8, out: &mut [u8], at: usize) -> usize
-    requires { at + 20 ≤ length out.old }
-    ensures { Puts 20 out.old at (named (mnemonic_of byte) byte) out.new result }
+#[tactic(auto, using(phrases::proofs::Wrote::pieces, wording::proofs::Laws::no_text, wording::proofs::Laws::some_text))]
+fn put_byte_name(line: &mut Line<'_>, byte: u8)
+    requires { HasRoom 20 line.old }
+    ensures { Wrote 20 line.old (named (mnemonic_of byte) byte) line.new }
 {
-    let end = mnemonics::put_mnemonic(byte, out, at);
-    if end == at {
-        return phrases::put_decimal(byte as usize, out, at);
+    let start = line.length;
+    mnemonics::put_mnemonic(line, byte);
+    if line.length == start {
+        line.decimal(byte as usize);
     }
-    end
 }
 
-fn put_instruction(byte: u8, pool: &[u8], record: Record, out: &mut [u8], at: usize) -> usize
-    requires { at + 107 ≤ length out.old }
-    ensures { Puts 107 out.old at (instruction (format_of byte) byte pool.now «record») out.new result }
+#[tactic(auto, using(phrases::proofs::Wrote::pieces), unfolding(crate::specs::Lines::instruction))]
+fn put_instruction(line: &mut Line<'_>, byte: u8, pool: &[u8], record: Record)
+    requires { HasRoom 107 line.old }
+    ensures { Wrote 107 line.old (instruction (format_of byte) byte pool.now «record») line.new }
 {
-    let formats = opcodes::formats();
-    let format = opcodes::format_of(&formats, byte);
+    let format = opcodes::format_of(byte);
     if !wording::has_operands(format) {
-        return put_byte_name(byte, out, at);
+        return put_byte_name(line, byte);
     }
-    let start = put_column(byte, out, at);
-    wording::put_operands(format, pool, record, out, start)
+    put_column(line, byte);
+    put_operands(line, format, pool, record);
 }
 
 // What stands in the code at the record's offset.
-fn put_shown(code: &[u8], pool: &[u8], record: Record, out: &mut [u8], at: usize) -> usize
-    requires { at + 107 ≤ length out.old }
-    ensures { Puts 107 out.old at (shown_at code.now pool.now «record») out.new result }
+#[tactic(auto, using(phrases::proofs::Wrote::pieces), unfolding(crate::specs::Lines::shown_at))]
+fn put_shown(line: &mut Line<'_>, code: &[u8], pool: &[u8], record: Record)
+    requires { HasRoom 107 line.old }
+    ensures { Wrote 107 line.old (shown_at code.now pool.now «record») line.new }
 {
-    let offset = record.offset as usize;
-    if offset < code.len() {
-        return put_instruction(code[offset], pool, record, out, at);
+    match code.get(record.offset as usize) {
+        Some(&byte) => put_instruction(line, byte, pool, record),
+        None => line.text(b"past the end"),
     }
-    phrases::put_text(b"past the end", out, at)
 }
 
-fn put_instruction_line(
-    code: &[u8],
-    pool: &[u8],
-    record: Record,
-    out: &mut [u8],
-    at: usize,
-) -> usize
-    requires { at + 138 ≤ length out.old }
-    ensures { Puts 138 out.old at (instruction_line code.now pool.now «record») out.new result }
+// A number after what it is.
+fn put_number(line: &mut Line<'_>, before: &[u8], n: usize)
+    requires { HasRoom (length before.now + 20) line.old }
+    ensures { Wrote (length before.now + 20) line.old (before.now ++ decimal n) line.new }
 {
-    let colon = phrases::put_decimal_right(8, record.offset as usize, out, at);
-    let start = phrases::put_text(b": ", out, colon);
-    let end = put_shown(code, pool, record, out, start);
-    phrases::put_text(b"\n", out, end)
+    line.text(before);
+    line.decimal(n);
 }
 
-fn put_entry_line(offset: u32, entry: SwitchEntry, out: &mut [u8], at: usize) -> usize
-    requires { at + 71 ≤ length out.old }
-    ensures { Puts 71 out.old at (entry_line offset entry) out.new result }
+fn put_refusal(line: &mut Line<'_>, number: u32, place: usize, second: u32)
+    requires { HasRoom 89 line.old }
+    ensures { Wrote 89 line.old (refusal number place second) line.new }
 {
-    let colon = phrases::put_signed_right(27, entry.key, out, at);
-    let start = phrases::put_text(b": ", out, colon);
-    let end = wording::put_target(offset, entry.jump, out, start);
-    phrases::put_text(b"\n", out, end)
+    put_number(line, b"refused, ", number as usize);
+    put_number(line, b" at ", place);
+    put_number(line, b", second number ", second as usize);
 }
 
-fn put_accepted_line(instructions: usize, entries: usize, out: &mut [u8], at: usize) -> usize
-    requires { at + 93 ≤ length out.old }
-    ensures { Puts 93 out.old at (accepted_line instructions entries) out.new result }
+// The room that every line must find, else 33 at 0. Apart from the line, since no clause lends a slice in an `Ok`.
+fn check_room(out: &[u8]) -> Result<(), Refusal<usize>>
+    ensures { MatchResult result (λ _. line_room ≤ length out.now) (λ r. (r ≡ refused TooShort 0) × (length out.now < line_room)) }
 {
-    let first = phrases::put_text(b"accepted, ", out, at);
-    let end = wording::put_counted(instructions, b" instruction", b" instructions", out, first);
-    let second = phrases::put_text(b", ", out, end);
-    let last = wording::put_counted(entries, b" switch entry", b" switch entries", out, second);
-    phrases::put_text(b"\n", out, last)
-}
-
-fn put_refusal(number: u32, place: usize, second: u32, out: &mut [u8], at: usize) -> usize
-    requires { at + 89 ≤ length out.old }
-    ensures { Puts 89 out.old at (refusal number place second) out.new result }
-{
-    let first = phrases::put_text(b"refused, ", out, at);
-    let end = phrases::put_decimal(number as usize, out, first);
-    let next = phrases::put_text(b" at ", out, end);
-    let last = phrases::put_decimal(place, out, next);
-    let third = phrases::put_text(b", second number ", out, last);
-    phrases::put_decimal(second as usize, out, third)
-}
-
-fn put_refused_line(number: u32, place: usize, second: u32, out: &mut [u8], at: usize) -> usize
-    requires { at + 142 ≤ length out.old }
-    ensures { Puts 142 out.old at (refused_line number place second) out.new result }
-{
-    let colon = put_refusal(number, place, second, out, at);
-    let start = phrases::put_text(b": ", out, colon);
-    let end = put_meaning(number, out, start);
-    phrases::put_text(b"\n", out, end)
-}
-
-fn put_sum_line(methods: usize, accepted: usize, refused: usize, out: &mut [u8], at: usize) -> usize
-    requires { at + 90 ≤ length out.old }
-    ensures { Puts 90 out.old at (sum_line methods accepted refused) out.new result }
-{
-    let first = phrases::put_text(b"methods ", out, at);
-    let end = phrases::put_decimal(methods, out, first);
-    let second = phrases::put_text(b", accepted ", out, end);
-    let next = phrases::put_decimal(accepted, out, second);
-    let third = phrases::put_text(b", refused ", out, next);
-    let last = phrases::put_decimal(refused, out, third);
-    phrases::put_text(b"\n", out, last)
+    if out.len() < LINE_ROOM {
+        return Err(Reason::TooShort.at(0));
+    }
+    Ok(())
 }
 
 // The line of an instruction's record, over its code and the tags of its pool.
@@ -195,10 +150,13 @@ pub fn instruction_line(code: &[u8], pool: &[u8], record: Record, out: &mut [u8]
     ensures answers { result ≡ lining (instruction_line code.now pool.now «record») (length out.old) }
     ensures writes { out.new ≡ line_output (instruction_line code.now pool.now «record») out.old }
 {
-    if out.len() < LINE_ROOM {
-        return Output::Refused(TOO_SHORT, 0);
-    }
-    Output::Written(put_instruction_line(code, pool, record, out, 0))
+    check_room(out)?;
+    let mut line = Line { out, length: 0 };
+    line.decimal_right(8, record.offset as usize);
+    line.text(b": ");
+    put_shown(&mut line, code, pool, record);
+    line.text(b"\n");
+    Ok(line.length)
 }
 
 // The line of an entry of the switch at an offset.
@@ -206,10 +164,13 @@ pub fn entry_line(offset: u32, entry: SwitchEntry, out: &mut [u8]) -> Output
     ensures answers { result ≡ lining (entry_line offset entry) (length out.old) }
     ensures writes { out.new ≡ line_output (entry_line offset entry) out.old }
 {
-    if out.len() < LINE_ROOM {
-        return Output::Refused(TOO_SHORT, 0);
-    }
-    Output::Written(put_entry_line(offset, entry, out, 0))
+    check_room(out)?;
+    let mut line = Line { out, length: 0 };
+    line.signed_right(27, entry.key);
+    line.text(b": ");
+    put_target(&mut line, offset, entry.jump);
+    line.text(b"\n");
+    Ok(line.length)
 }
 
 // The line of an accepted method.
@@ -217,21 +178,28 @@ pub fn accepted_line(instructions: usize, entries: usize, out: &mut [u8]) -> Out
     ensures answers { result ≡ lining (accepted_line instructions entries) (length out.old) }
     ensures writes { out.new ≡ line_output (accepted_line instructions entries) out.old }
 {
-    if out.len() < LINE_ROOM {
-        return Output::Refused(TOO_SHORT, 0);
-    }
-    Output::Written(put_accepted_line(instructions, entries, out, 0))
+    check_room(out)?;
+    let mut line = Line { out, length: 0 };
+    line.text(b"accepted, ");
+    put_counted(&mut line, instructions, b" instruction", b" instructions");
+    line.text(b", ");
+    put_counted(&mut line, entries, b" switch entry", b" switch entries");
+    line.text(b"\n");
+    Ok(line.length)
 }
 
-// The line of a refused method.
+// The line of a refused method. The number may be any.
 pub fn refused_line(number: u32, place: usize, second: u32, out: &mut [u8]) -> Output
     ensures answers { result ≡ lining (refused_line number place second) (length out.old) }
     ensures writes { out.new ≡ line_output (refused_line number place second) out.old }
 {
-    if out.len() < LINE_ROOM {
-        return Output::Refused(TOO_SHORT, 0);
-    }
-    Output::Written(put_refused_line(number, place, second, out, 0))
+    check_room(out)?;
+    let mut line = Line { out, length: 0 };
+    put_refusal(&mut line, number, place, second);
+    line.text(b": ");
+    put_meaning(&mut line, number);
+    line.text(b"\n");
+    Ok(line.length)
 }
 
 // The line on all methods.
@@ -239,12 +207,16 @@ pub fn sum_line(methods: usize, accepted: usize, refused: usize, out: &mut [u8])
     ensures answers { result ≡ lining (sum_line methods accepted refused) (length out.old) }
     ensures writes { out.new ≡ line_output (sum_line methods accepted refused) out.old }
 {
-    if out.len() < LINE_ROOM {
-        return Output::Refused(TOO_SHORT, 0);
-    }
-    Output::Written(put_sum_line(methods, accepted, refused, out, 0))
+    check_room(out)?;
+    let mut line = Line { out, length: 0 };
+    put_number(&mut line, b"methods ", methods);
+    put_number(&mut line, b", accepted ", accepted);
+    put_number(&mut line, b", refused ", refused);
+    line.text(b"\n");
+    Ok(line.length)
 }
 
+#[tactic(auto, using(phrases::proofs::Wrote::pieces), unfolding(crate::specs::Escapes::hex_digit))]
 fn hex_digit(d: u8) -> u8
     requires { d < 16 }
     ensures { result ≡ hex_digit d }
@@ -258,43 +230,35 @@ fn hex_digit(d: u8) -> u8
 fn is_plain(byte: u8) -> bool
     ensures { result ≡ is_plain byte }
 {
-    (0x20 <= byte) & (byte <= 0x7e) & (byte != b'\\')
+    matches!(byte, 0x20..=0x7e) && byte != b'\\'
 }
 
 // A byte as it is, or escaped where it might steer a terminal.
-fn put_shown_byte(byte: u8, out: &mut [u8], at: usize) -> usize
-    requires { at + 4 ≤ length out.old }
-    ensures { Puts 4 out.old at (shown_byte byte) out.new result }
+#[tactic(auto, using(phrases::proofs::Wrote::pieces), unfolding(crate::specs::Escapes::shown_byte))]
+fn put_shown_byte(line: &mut Line<'_>, byte: u8)
+    requires { HasRoom 4 line.old }
+    ensures { Wrote 4 line.old (shown_byte byte) line.new }
 {
     if is_plain(byte) {
-        let itself = [byte];
-        return phrases::put_text(&itself, out, at);
+        return line.byte(byte);
     }
-    let digits = [hex_digit(byte / 16), hex_digit(byte % 16)];
-    let next = phrases::put_text(b"\\x", out, at);
-    phrases::put_text(&digits, out, next)
-}
-
-fn put_shown_text(text: &[u8], out: &mut [u8]) -> usize
-    requires { length text.now * 4 ≤ length out.old }
-    ensures { Puts (length text.now * 4) out.old 0 (shown_text text.now) out.new result }
-{
-    let mut next = 0;
-    let mut i = 0;
-    while i < text.len() {
-        next = put_shown_byte(text[i], out, next);
-        i += 1;
-    }
-    next
+    line.text(b"\\x");
+    line.byte(hex_digit(byte / 16));
+    line.byte(hex_digit(byte % 16));
 }
 
 // A text of any bytes, such as a name, as a terminal may show it.
+#[tactic(auto, using(phrases::proofs::Wrote::pieces, crate::proofs::Escapes::showing_ends))]
 pub fn shown(text: &[u8], out: &mut [u8]) -> Output
     ensures answers { result ≡ showing text.now (length out.old) }
     ensures writes { out.new ≡ shown_output text.now out.old }
 {
     if out.len() / 4 < text.len() {
-        return Output::Refused(TOO_SHORT, 0);
+        return Err(Reason::TooShort.at(0));
     }
-    Output::Written(put_shown_text(text, out))
+    let mut line = Line { out, length: 0 };
+    for &byte in text {
+        put_shown_byte(&mut line, byte);
+    }
+    Ok(line.length)
 }

@@ -1,11 +1,12 @@
 -- Worked examples: a store, a count and an offset, and the answer. Proved in proofs/Examples.antt.
-use Rattle.std.specs.Prelude.{ℕ, ◌-◌, ◌^◌, true, false, List, [], ◌∷◌, take}
+use Rattle.std.specs.Prelude.{ℕ, ◌-◌, ◌^◌, true, false, List, [], ◌∷◌, take, Option, Some, None, Result, Ok, Err}
 use Rattle.laws.specs.Bytes.{one_of}
 use Rattle.laws.specs.Examples.{Computes}
+use Rattle.read.specs.declared.CodeOffset.{CodeOffset}
+use Rattle.records.specs.declared.RecordIndex.{RecordIndex}
 use Rattle.records.specs.Records.{index}
-use Rattle.lookup.specs.declared.Found.{Found}
-use Rattle.lookup.specs.declared.Found.TheVariants as found
-use Rattle.lookup.specs.Lookup.{offsets_of, rises, lookup_of}
+use Rattle.refusals.specs.declared.Refusal.{Refusal}
+use Rattle.lookup.specs.Lookup.{offsets_of, rises, not_sorted, lookup_of}
 
 -- records with these offsets; the other words are no offsets
 abbrev store_of : List ℕ → List ℕ
@@ -21,11 +22,14 @@ falling = store_of (0 ∷ 7 ∷ 3 ∷ [])
 abbrev equal : List ℕ
 equal = store_of (0 ∷ 3 ∷ 3 ∷ [])
 
-abbrev at : ℕ → Found
-at i = found.At (index i)
+abbrev at : ℕ → Result (Option RecordIndex) (Refusal CodeOffset)
+at i = Ok (Some (index i))
 
-abbrev refused : Found
-refused = found.Refused 35 (record { 0 = 0 })
+abbrev nothing : Result (Option RecordIndex) (Refusal CodeOffset)
+nothing = Ok None
+
+abbrev refused : Result (Option RecordIndex) (Refusal CodeOffset)
+refused = Err not_sorted
 
 -- proved as `lookups_compute`
 abbrev pub LookupsCompute : Type 0
@@ -34,13 +38,13 @@ LookupsCompute =
     ((three, 3, 0), at 0)
     ∷ ((three, 3, 3), at 1)
     ∷ ((three, 3, 7), at 2)
-    ∷ ((three, 3, 5), found.Nothing)
-    ∷ ((three, 3, 8), found.Nothing)
-    ∷ ((three, 3, 91), found.Nothing)
-    ∷ ((three, 3, 2 ^ 64 - 1), found.Nothing)
-    ∷ ((three, 2, 7), found.Nothing)
-    ∷ ((three, 0, 0), found.Nothing)
-    ∷ (([], 0, 0), found.Nothing)
+    ∷ ((three, 3, 5), nothing)
+    ∷ ((three, 3, 8), nothing)
+    ∷ ((three, 3, 91), nothing)
+    ∷ ((three, 3, 2 ^ 64 - 1), nothing)
+    ∷ ((three, 2, 7), nothing)
+    ∷ ((three, 0, 0), nothing)
+    ∷ (([], 0, 0), nothing)
     ∷ (([], 1, 0), refused)
     ∷ ((three, 4, 0), refused)
     ∷ ((three, 2 ^ 64 - 1, 0), refused)

@@ -1,9 +1,8 @@
 -- Each answer of the lookup exactly when. The proofs are in proofs/Exactly.antt.
-use Rattle.std.specs.Prelude.{ℕ, ◌<◌, List, ◌↔◌, ◌≡◌}
+use Rattle.std.specs.Prelude.{ℕ, ◌<◌, List, ◌↔◌, ◌≡◌, Some, None, Ok, Err}
 use Rattle.read.specs.declared.CodeOffset.{CodeOffset}
 use Rattle.records.specs.declared.RecordIndex.{RecordIndex}
-use Rattle.lookup.specs.declared.Found.TheVariants as found
-use Rattle.lookup.specs.Lookup.{offset_of, Sorted, lookup_of}
+use Rattle.lookup.specs.Lookup.{offset_of, Sorted, not_sorted, lookup_of}
 
 -- the record at the index is the one with the offset; no other of them can have it, since the offsets increase
 pub record Has (records : List ℕ) (count : ℕ) (x : CodeOffset) (i : RecordIndex) : Type 0 where
@@ -14,7 +13,7 @@ pub record Has (records : List ℕ) (count : ℕ) (x : CodeOffset) (i : RecordIn
 -- proved as `found_exactly`
 abbrev pub FoundExactly : Type 0
 FoundExactly =
-    (records : List ℕ) (count : ℕ) (x : CodeOffset) (i : RecordIndex) → (lookup_of records count x ≡ found.At i) ↔ Has records count x i
+    (records : List ℕ) (count : ℕ) (x : CodeOffset) (i : RecordIndex) → (lookup_of records count x ≡ Ok (Some i)) ↔ Has records count x i
 
 pub record HasNone (records : List ℕ) (count : ℕ) (x : CodeOffset) : Type 0 where
   pub sorted : Sorted records count
@@ -23,10 +22,10 @@ pub record HasNone (records : List ℕ) (count : ℕ) (x : CodeOffset) : Type 0 
 -- proved as `nothing_exactly`
 abbrev pub NothingExactly : Type 0
 NothingExactly =
-    (records : List ℕ) (count : ℕ) (x : CodeOffset) → (lookup_of records count x ≡ found.Nothing) ↔ HasNone records count x
+    (records : List ℕ) (count : ℕ) (x : CodeOffset) → (lookup_of records count x ≡ Ok None) ↔ HasNone records count x
 
 -- proved as `refused_exactly`
 abbrev pub Refused35Exactly : Type 0
 Refused35Exactly =
     (records : List ℕ) (count : ℕ) (x : CodeOffset)
-    → (lookup_of records count x ≡ found.Refused 35 (record { 0 = 0 })) ↔ (Sorted records count → ⊥)
+    → (lookup_of records count x ≡ Err not_sorted) ↔ (Sorted records count → ⊥)

@@ -1,90 +1,63 @@
-// The record of an offset, as `get_opcode_index` of cafebabe's bytecode.rs: the search halves the span and asks itself
-// again until it is empty.
+// The record of an offset, as `get_opcode_index` of cafebabe's bytecode.rs.
 #![tactic(auto)]
 
-ghost use Rattle.std.specs.Prelude.{◌≡◌, ◌+◌, ◌≤◌};
+ghost use Rattle.std.specs.Prelude.{◌≡◌, MatchResult};
 ghost use Rattle.laws.specs.Bytes.{one_of};
-ghost use Rattle.records.specs.Records.{record_room};
-ghost use Rattle.lookup.specs.Lookup.{Sorted, offsets_of, first_from, nowhere, number_of, rises, lookup_of};
+ghost use Rattle.records.specs.Records.{index};
+ghost use Rattle.lookup.specs.Lookup.{Sorted, offsets_of, first_from, not_sorted, lookup_of};
 
 use read::CodeOffset;
 use records::{RECORD_WORDS, RecordIndex};
+use refusals::{Reason, Refusal};
 
-// Document 01's refusal of a store.
-pub const NOT_SORTED: u32 = 35;
-
-// What a lookup answers: the index of the record, that there is none, or a refusal's number and its place.
+// The first so many records of a store, of which each offset is below the next. `new` looks at them all; who has filled
+// the store in this order writes the struct itself.
 #[derive(Clone, Copy)]
-pub enum Found {
-    At(RecordIndex),
-    Nothing,
-    Refused(u32, CodeOffset),
+pub struct SortedRecords<'a> {
+    pub records: &'a [u32],
+    pub count: usize,
+    ghost sorted: { Sorted records.now count },
 }
 
-// No index of a store: the answer of a search that finds nothing. On paper: `nowhere`.
-const NOWHERE: usize = 0xffff_ffff_ffff_ffff;
-
-// Looks at the record in the middle of the span, and then in one half. A number, and the slice behind a reference: so the
-// calls compile to a loop. Behind it a slice's length has no known bound: the end of the span has its own.
-fn search(records: &&[u32], from: RecordIndex, span: usize, offset: CodeOffset) -> usize
-    requires { Sorted records.now.now (from.0 + span) × (from.0 + span ≤ nowhere) }
-    ensures { result ≡ number_of (first_from records.now.now offset from span) }
-{
-    if span == 0 {
-        return NOWHERE;
-    }
-    let half = span / 2;
-    let mid = from.0 + half;
-    let there = records::offset_at(*records, RecordIndex(mid));
-    if there.0 == offset.0 {
-        return mid;
-    }
-    if offset.0 < there.0 {
-        search(records, from, half, offset)
-    } else {
-        search(records, RecordIndex(mid + 1), span - half - 1, offset)
-    }
-}
-
-// Whether one of the first records has the offset.
-pub fn is_offset(records: &&[u32], count: usize, offset: CodeOffset) -> bool
-    requires { Sorted records.now.now count }
-    ensures { result ≡ one_of (offsets_of records.now.now count) offset.0 }
-{
-    search(records, RecordIndex(0), count, offset) != NOWHERE
-}
-
-// Whether the offsets of the first records strictly increase.
-fn is_rising(records: &[u32], count: usize) -> bool
-    requires { count ≤ record_room records.now }
-    ensures { result ≡ rises records.now count }
-{
-    let mut i = 1;
-    while i < count {
-        let before = records::offset_at(records, RecordIndex(i - 1));
-        let here = records::offset_at(records, RecordIndex(i));
-        if here.0 <= before.0 {
-            return false;
+impl<'a> SortedRecords<'a> {
+    // Refused with 35 where the records are not all there or their offsets do not strictly increase.
+    pub fn new(records: &'a [u32], count: usize) -> Result<Self, Refusal<CodeOffset>>
+        ensures { MatchResult result (λ s. (s.records.now ≡ records.now) × (s.count ≡ count)) (λ r. (r ≡ not_sorted) × (Sorted records.now count → ⊥)) }
+    {
+        let (rows, _) = records.as_chunks::<RECORD_WORDS>();
+        match rows.get(..count) {
+            Some(first) if first.is_sorted_by(|row, next| row[0] < next[0]) => {
+                Ok(SortedRecords { records, count })
+            }
+            _ => Err(Reason::NotSorted.at(CodeOffset(0))),
         }
-        i += 1;
     }
-    true
+
+    // The index of the record that has the offset.
+    pub fn index_of(self, offset: CodeOffset) -> Option<RecordIndex>
+        ensures { result ≡ first_from self.entry.records.now offset (index 0) self.entry.count }
+    {
+        let (rows, _) = self.records.as_chunks::<RECORD_WORDS>();
+        let found = rows[..self.count].binary_search_by_key(&offset.0, |row| row[0] as usize);
+        found.ok().map(|i| RecordIndex(i))
+    }
+
+    // Whether one of the records has the offset.
+    pub fn is_offset(self, offset: CodeOffset) -> bool
+        ensures { result ≡ one_of (offsets_of self.entry.records.now self.entry.count) offset.0 }
+    {
+        self.index_of(offset).is_some()
+    }
 }
 
 // The index of the record of an offset, among the first so many of a store. Any count and any offset may be given; what
 // lies past the count is not looked at.
-pub fn find(records: &[u32], count: usize, offset: CodeOffset) -> Found
+pub fn find(
+    records: &[u32],
+    count: usize,
+    offset: CodeOffset,
+) -> Result<Option<RecordIndex>, Refusal<CodeOffset>>
     ensures { result ≡ lookup_of records.now count offset }
 {
-    if records.len() / RECORD_WORDS < count {
-        return Found::Refused(NOT_SORTED, CodeOffset(0));
-    }
-    if is_rising(records, count) {
-        let found = search(&records, RecordIndex(0), count, offset);
-        if found == NOWHERE {
-            return Found::Nothing;
-        }
-        return Found::At(RecordIndex(found));
-    }
-    Found::Refused(NOT_SORTED, CodeOffset(0))
+    Ok(SortedRecords::new(records, count)?.index_of(offset))
 }

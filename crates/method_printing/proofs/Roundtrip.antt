@@ -15,8 +15,7 @@ use Rattle.laws.specs.Bytes.{byte, ascii, every, text_limit}
 use Rattle.descriptors.specs.declared.FieldDescriptor.{FieldDescriptor}
 use Rattle.descriptors.specs.Texts.{void}
 use Rattle.descriptors.specs.Grammar.{ReturnDescriptor, parts_at}
-use Rattle.methods.specs.declared.Method.TheVariants as method
-use Rattle.methods.specs.Texts.{part_words, room_of, method_text, text_store}
+use Rattle.methods.specs.Texts.{part_words, room_of, parsed, method_text, text_store}
 use Rattle.methods.specs.Grammar.{Parameters, MethodDescriptor, FewDimensions, FewInReturn, FewInMethod, number, list_at, return_at, parameter_count, parameter_parts, return_parts}
 use Rattle.methods.specs.Theorems.{all_words}
 use Rattle.methods.proofs.Entries.{method_text_exactly, accepted_store}
@@ -92,7 +91,7 @@ words_length [] = refl
 words_length (f ∷ fs) = omega (arith, words_length fs)
 
 -- The store after a reading: the records of the derivation's parameters.
-module _ (store s : List ℕ) (count : ℕ) (r : FieldDescriptor) (used : ℕ) (h : method_text (room_of store) s ≡ method.Parsed count r used) (tree : MethodDescriptor s) (counted : count ≡ length (parameter_parts tree)) where
+module _ (store s : List ℕ) (count : ℕ) (r : FieldDescriptor) (used : ℕ) (h : method_text (room_of store) s ≡ parsed count r used) (tree : MethodDescriptor s) (counted : count ≡ length (parameter_parts tree)) where
   parts_stored : parts_in count (text_store store s) ≡ parameter_parts tree
   parts_stored =
       ap₂ parts_in counted (accepted_store store s count r used h tree) ∙ parts_in_words (parameter_parts tree) (drop (count * part_words) store)

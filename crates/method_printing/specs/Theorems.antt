@@ -1,12 +1,10 @@
 -- Reading and printing a method's parts undo each other, and what 34 is given for. The proofs are in
 -- proofs/Roundtrip.antt.
-use Rattle.std.specs.Prelude.{ℕ, ◌≤◌, List, [], ◌∷◌, ◌++◌, ◌↔◌, ◌≡◌, length, take, drop}
+use Rattle.std.specs.Prelude.{ℕ, ◌≤◌, List, [], ◌∷◌, ◌++◌, ◌↔◌, ◌≡◌, length, take, drop, Ok}
 use Rattle.std.proofs.Math.Bool.{So}
 use Rattle.laws.specs.Bytes.{text_limit}
 use Rattle.descriptors.specs.declared.FieldDescriptor.{FieldDescriptor}
-use Rattle.methods.specs.declared.Method.TheVariants as method
-use Rattle.methods.specs.Texts.{room_of, method_text, text_store}
-use Rattle.output.specs.declared.Output.TheVariants as output
+use Rattle.methods.specs.Texts.{room_of, parsed, method_text, text_store}
 use Rattle.printing.specs.Theorems.{Agree}
 use Rattle.method_printing.specs.Printing.{method_bytes, parts_in, are_method_parts, print_method, method_output}
 
@@ -20,22 +18,22 @@ pub data AllAgree (text other : List ℕ) : List FieldDescriptor → List FieldD
 abbrev pub MethodPrintsBack : Type 0
 MethodPrintsBack =
     (store s out : List ℕ) (count : ℕ) (r : FieldDescriptor) (used : ℕ)
-    → method_text (room_of store) s ≡ method.Parsed count r used → length s ≤ length out
-    → (print_method s (text_store store s) count r (length out) ≡ output.Written (length s))
+    → method_text (room_of store) s ≡ parsed count r used → length s ≤ length out
+    → (print_method s (text_store store s) count r (length out) ≡ Ok (length s))
     × (method_output s (text_store store s) count r out ≡ s ++ drop (length s) out)
 
 -- (b) What is printed reads back, whole, to parts that agree and to the same number of parameters, in any store that has
 -- room for them: proved as `method_reads_back`
 pub record ReadsAlike (text : List ℕ) (parameters : List FieldDescriptor) (count : ℕ) (r : FieldDescriptor) (store s : List ℕ) : Type 0 where
   pub return : FieldDescriptor
-  pub reads : method_text (room_of store) s ≡ method.Parsed count return (length s)
+  pub reads : method_text (room_of store) s ≡ parsed count return (length s)
   pub returns : Agree text r s return
   pub alike : AllAgree text s parameters (parts_in count (text_store store s))
 
 abbrev pub MethodReadsBack : Type 0
 MethodReadsBack =
     (text store out : List ℕ) (count : ℕ) (r : FieldDescriptor) (n : ℕ)
-    → print_method text store count r (length out) ≡ output.Written n → (other : List ℕ) → count ≤ room_of other
+    → print_method text store count r (length out) ≡ Ok n → (other : List ℕ) → count ≤ room_of other
     → ReadsAlike text (parts_in count store) count r other (take n (method_output text store count r out))
 
 -- Parts keep the rules, and what they print is within the limit, exactly when the records are there and some text reads

@@ -8,6 +8,8 @@ use native.Mathlib.Omega.{arith}
 use borrow.Author.Tests.{ne_eqb}
 use lib.ListN.{length, drop, length-append}
 use lib.Seq.{drop_at}
+use Rattle.std.specs.Prelude.{Result, Ok, Err}
+use Rattle.refusals.specs.declared.Refusal.{Refusal}
 use Rattle.laws.specs.Bytes.{byte, ascii, begins_with}
 use Rattle.laws.proofs.Lists.{begins_cons}
 use Rattle.names.proofs.Joined.{text_set}
@@ -22,14 +24,14 @@ use Rattle.methods.specs.declared.Next.TheVariants as next
 use Rattle.methods.specs.Texts.{parameter_of, return_of, next_from, Reading, rest_from, opening, method_reading}
 use Rattle.methods.specs.Grammar.{Parameters, MethodDescriptor, FewDimensions, reading_at}
 use Rattle.methods.specs.Theorems.{accepted, BeginsReturn, BeginsRest, BeginsMethod, MethodExactly, OneDerivation, OneBeginning}
-use Rattle.methods.proofs.Laws.{next_return, next_parameter, is_parameter, is_return, rest_none, rest_parameter, rest_return, rest_refused, opening_facts, opening_good, reading_opened, reading_refused}
+use Rattle.methods.proofs.Laws.{next_return, next_parameter, is_parameter, is_return, rest_none, rest_parameter, rest_return, rest_refused, opening_facts, opening_good, opened_reading, reading_refused}
 
 -- From a reading to a derivation.
-no_reading : {n p : ℕ} {r : Reading} → r ≡ Reading.refused n p → So (accepted r) → ⊥
+no_reading : {x : Refusal ℕ} {r : Reading} → r ≡ Reading.refused x → So (accepted r) → ⊥
 no_reading e h = false≢true (sym (ap accepted e) ∙ h)
 
 module _ (most at : ℕ) (s : List ℕ) where
-  return_begins : (f : FieldDescriptor) (used : ℕ) → next_from at s ≡ next.Return f used → BeginsRest at s (rest_from (suc most) at s)
+  return_begins : (f : FieldDescriptor) (used : ℕ) → next_from at s ≡ Ok (next.Return f used) → BeginsRest at s (rest_from (suc most) at s)
   unfolding reading_at
   return_begins f used e =
       let r = is_return at s f used e in
@@ -47,7 +49,7 @@ module _ (most at : ℕ) (s : List ℕ) where
       }
 
   parameter_begins :
-      (f : FieldDescriptor) (after : ℕ) → next_from at s ≡ next.Parameter f after
+      (f : FieldDescriptor) (after : ℕ) → next_from at s ≡ Ok (next.Parameter f after)
       → BeginsRest after (drop (after - at) s) (rest_from most after (drop (after - at) s)) → BeginsRest at s (rest_from (suc most) at s)
   unfolding reading_at
   parameter_begins f after e b =
@@ -78,10 +80,10 @@ rest_begins : (most at : ℕ) (s : List ℕ) → So (accepted (rest_from most at
 rest_begins zero at s h = absurd (no_reading (rest_none at s) h)
 rest_begins (suc most) at s h = go (λ after. rest_begins most after (drop (after - at) s)) (next_from at s) refl
   where
-    go : ((after : ℕ) → So (accepted (rest_from most after (drop (after - at) s))) → BeginsRest after (drop (after - at) s) (rest_from most after (drop (after - at) s))) → (x : Next) → next_from at s ≡ x → BeginsRest at s (rest_from (suc most) at s)
-    go more (next.Parameter f after) e = parameter_begins most at s f after e (more after (subst (λ (r : Reading). So (accepted r)) (rest_parameter at s most f after e) h))
-    go more (next.Return f used) e = return_begins most at s f used e
-    go more (next.Refused n p) e = absurd (no_reading (rest_refused at s most n p e) h)
+    go : ((after : ℕ) → So (accepted (rest_from most after (drop (after - at) s))) → BeginsRest after (drop (after - at) s) (rest_from most after (drop (after - at) s))) → (x : Result Next (Refusal ℕ)) → next_from at s ≡ x → BeginsRest at s (rest_from (suc most) at s)
+    go more (Ok (next.Parameter f after)) e = parameter_begins most at s f after e (more after (subst (λ (r : Reading). So (accepted r)) (rest_parameter at s most f after e) h))
+    go more (Ok (next.Return f used)) e = return_begins most at s f used e
+    go more (Err r) e = absurd (no_reading (rest_refused at s most r e) h)
 
 -- From a derivation to a reading. No field descriptor begins with a ) or a V.
 module _ (c : ℕ) (base : is_base_type c ≡ false) (object : c ≡ byte "L" → ⊥) (array : c ≡ byte "[" → ⊥) where
@@ -121,7 +123,7 @@ rest_run (suc most) at (Parameters.more {s = p} q rest t ts e) few s f used r h 
     follows : List ℕ
     follows = rest ++ byte ")" ∷ s
 
-    parameter : next_from at (q ++ follows) ≡ next.Parameter (parts_at 0 at t) (at + length q)
+    parameter : next_from at (q ++ follows) ≡ Ok (next.Parameter (parts_at 0 at t) (at + length q))
     parameter = next_parameter at (q ++ follows) (no_close t follows) ∙ ap parameter_of (field_run 0 at t follows (rw zero-add few.0))
 
     left : drop (at + length q - at) (q ++ follows) ≡ follows
@@ -136,12 +138,12 @@ rest_run (suc most) at (Parameters.more {s = p} q rest t ts e) few s f used r h 
     short : length rest < most
     short = omega (arith, long, some_text t)
 
-opened : (s : List ℕ) → So (accepted (method_reading s)) → opening s ≡ 0
+opened : (s : List ℕ) → So (accepted (method_reading s)) → opening s ≡ Ok tt
 opened s h = go (opening s) refl
   where
-    go : (n : ℕ) → opening s ≡ n → opening s ≡ 0
-    go zero e = e
-    go (suc n) e = absurd (no_reading (reading_refused s (suc n) (sym e) (λ z. omega arith)) h)
+    go : (o : Result (Unit {0}) (Refusal ℕ)) → opening s ≡ o → opening s ≡ Ok tt
+    go (Ok u) e = e
+    go (Err r) e = absurd (no_reading (reading_refused s e) h)
 
 accepted_run : (at : ℕ) {p : List ℕ} (trees : Parameters p) (f : FieldDescriptor) (used : ℕ) → So (accepted (reading_at at trees (Reading.ended f used)))
 unfolding reading_at
@@ -157,7 +159,7 @@ method_exactly s r = (to, from)
         let open_s = opened s is in
         let facts = opening_facts s open_s in
         let c = (begins_cons (byte "(") s).0 facts.1 in
-        let read : method_reading s ≡ rest_from (length s) 1 c.0 = reading_opened s open_s ∙ ap (λ (l : List ℕ). rest_from (length s) 1 (drop 1 l)) c.1 in
+        let read : method_reading s ≡ rest_from (length s) 1 c.0 = sym (opened_reading (refl, open_s)) ∙ ap (λ (l : List ℕ). rest_from (length s) 1 (drop 1 l)) c.1 in
         record {
           short = facts.0;
           rest = c.0;
@@ -171,7 +173,7 @@ method_exactly s r = (to, from)
         let open_s = opening_good s b.short ((begins_cons (byte "(") s).1 (b.rest, b.opens)) in
         let long : length s ≡ suc (length m.parameters + suc (length m.follows)) = ap length b.opens ∙ ap suc (ap length m.split ∙ length-append m.parameters (byte ")" ∷ m.follows)) in
         let run = rest_run (length s) 1 m.trees m.few m.follows m.return m.used m.returns (omega arith) in (
-          reading_opened s open_s ∙ ap (λ (l : List ℕ). rest_from (length s) 1 (drop 1 l)) b.opens ∙ ap (rest_from (length s) 1) m.split ∙ run ∙ sym m.reading,
+          sym (opened_reading (refl, open_s)) ∙ ap (λ (l : List ℕ). rest_from (length s) 1 (drop 1 l)) b.opens ∙ ap (rest_from (length s) 1) m.split ∙ run ∙ sym m.reading,
           rw m.reading (accepted_run 1 m.trees m.return m.used),
         )
 

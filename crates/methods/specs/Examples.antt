@@ -1,44 +1,41 @@
 -- Worked method descriptors, and the settled examples of document 01 for texts. Proved in proofs/Examples.antt.
-use Rattle.std.specs.Prelude.{ℕ, [], ◌∷◌, replicate}
+use Rattle.std.specs.Prelude.{ℕ, [], ◌∷◌, replicate, Result, Ok, Err}
 use Prim.Native.String.{String}
+use Rattle.refusals.specs.declared.Reason.TheVariants as reason
+use Rattle.refusals.specs.declared.Refusal.{Refusal}
+use Rattle.refusals.specs.Numbers.{refused, number_of}
 use Rattle.laws.specs.Bytes.{byte, ascii}
 use Rattle.laws.specs.Examples.{Computes}
-use Rattle.class_names.specs.declared.Checked.{Checked}
-use Rattle.class_names.specs.declared.Checked.TheVariants as checked
 use Rattle.class_names.specs.Names.{class_name}
-use Rattle.descriptors.specs.declared.Field.{Field}
-use Rattle.descriptors.specs.declared.Field.TheVariants as field
 use Rattle.descriptors.specs.Texts.{base, object, void, field_text}
-use Rattle.methods.specs.declared.Method.{Method}
-use Rattle.methods.specs.declared.Method.TheVariants as method
-use Rattle.methods.specs.Texts.{method_prefix, method_text, text_store}
+use Rattle.methods.specs.Texts.{parsed, method_prefix, method_text, text_store}
 
 -- proved as `methods_compute`, with room for two parameters
 abbrev pub MethodsCompute : Type 0
 MethodsCompute =
     Computes (λ (s : String). method_text 2 (ascii s)) (
-    ("()V", method.Parsed 0 void 3)
-    ∷ ("(I[La;)J", method.Parsed 2 (base 0 (byte "J")) 8)
-    ∷ ("(La);)[Lb;", method.Parsed 1 (object 1 8 1) 10)
-    ∷ ("", method.Refused 29 0)
-    ∷ ("V", method.Refused 29 0)
-    ∷ ("(", method.Refused 22 1)
-    ∷ ("(I", method.Refused 22 2)
-    ∷ ("(I)", method.Refused 22 3)
-    ∷ ("(V)V", method.Refused 23 1)
-    ∷ ("()VV", method.Refused 23 2)
-    ∷ ("(III)V", method.Refused 30 3)
-    ∷ ("(IIIX)V", method.Refused 30 3)
-    ∷ ("(IIX)V", method.Refused 23 3)
-    ∷ ("()II", method.Refused 31 3)
+    ("()V", parsed 0 void 3)
+    ∷ ("(I[La;)J", parsed 2 (base 0 (byte "J")) 8)
+    ∷ ("(La);)[Lb;", parsed 1 (object 1 8 1) 10)
+    ∷ ("", Err (refused reason.NoParenthesis 0))
+    ∷ ("V", Err (refused reason.NoParenthesis 0))
+    ∷ ("(", Err (refused reason.TypeDue 1))
+    ∷ ("(I", Err (refused reason.TypeDue 2))
+    ∷ ("(I)", Err (refused reason.TypeDue 3))
+    ∷ ("(V)V", Err (refused reason.NoSuchType 1))
+    ∷ ("()VV", Err (refused reason.NoSuchType 2))
+    ∷ ("(III)V", Err (refused reason.NoPartLeft 3))
+    ∷ ("(IIIX)V", Err (refused reason.NoPartLeft 3))
+    ∷ ("(IIX)V", Err (refused reason.NoSuchType 3))
+    ∷ ("()II", Err (refused reason.LeftOver 3))
     ∷ [])
 
 -- proved as `method_prefixes_compute`
 abbrev pub MethodPrefixesCompute : Type 0
 MethodPrefixesCompute =
     Computes (λ (s : String). method_prefix 2 (ascii s)) (
-    ("()II", method.Parsed 0 (base 0 (byte "I")) 3)
-    ∷ ("()VV", method.Refused 23 2)
+    ("()II", parsed 0 (base 0 (byte "I")) 3)
+    ∷ ("()VV", Err (refused reason.NoSuchType 2))
     ∷ [])
 
 -- proved as `stores_compute`: a store of nine words, each 7 before
@@ -55,26 +52,18 @@ StoresCompute =
     ∷ [])
 
 -- Document 01's number and place of an answer: 0 and 0 where the text is accepted
-abbrev pub of_checked : Checked → ℕ × ℕ
-of_checked checked.Accepted = (0, 0)
-of_checked (checked.Refused n p) = (n, p)
-
-abbrev pub of_field : Field → ℕ × ℕ
-of_field (field.Parsed f used) = (0, 0)
-of_field (field.Refused n p) = (n, p)
-
-abbrev pub of_method : Method → ℕ × ℕ
-of_method (method.Parsed count f used) = (0, 0)
-of_method (method.Refused n p) = (n, p)
+abbrev pub answered : {T : Type 0} → Result T (Refusal ℕ) → ℕ × ℕ
+answered (Ok t) = (0, 0)
+answered (Err r) = (number_of r.reason, r.place)
 
 -- what a text is read as
 pub data As : Type 0 where
   a_class_name a_field a_method : As
 
 abbrev pub reading : As × String → ℕ × ℕ
-reading (As.a_class_name, s) = of_checked (class_name (ascii s))
-reading (As.a_field, s) = of_field (field_text (ascii s))
-reading (As.a_method, s) = of_method (method_text 0 (ascii s))
+reading (As.a_class_name, s) = answered (class_name (ascii s))
+reading (As.a_field, s) = answered (field_text (ascii s))
+reading (As.a_method, s) = answered (method_text 0 (ascii s))
 
 -- Document 01's settled examples for texts, those marked P and two more, together: proved as `settled_texts`
 abbrev pub SettledTexts : Type 0

@@ -1,12 +1,12 @@
 -- The readings of method descriptors and the grammar agree. The proofs are in proofs/Grammar.antt and proofs/Entries.antt.
-use Rattle.std.specs.Prelude.{ℕ, ◌+◌, ◌*◌, ◌≤◌, ◌<◌, Bool, true, false, List, [], ◌∷◌, ◌++◌, ◌↔◌, ◌⊎◌, ◌≡◌, length, drop, replicate}
+use Rattle.std.specs.Prelude.{ℕ, ◌+◌, ◌*◌, ◌≤◌, ◌<◌, Bool, true, false, List, [], ◌∷◌, ◌++◌, ◌↔◌, ◌⊎◌, ◌≡◌, length, drop, replicate, Err}
 use Rattle.std.proofs.Math.Bool.{So}
+use Rattle.refusals.specs.declared.Refusal.{Refusal}
 use Rattle.laws.specs.Bytes.{byte, ascii, text_limit}
 use Rattle.descriptors.specs.declared.FieldDescriptor.{FieldDescriptor}
 use Rattle.descriptors.specs.Texts.{void}
 use Rattle.descriptors.specs.Theorems.{BeginsField}
-use Rattle.methods.specs.declared.Method.TheVariants as method
-use Rattle.methods.specs.Texts.{Reading, method_reading, part_words, words, room_of, method_prefix, method_text, is_method_text, prefix_store, text_store}
+use Rattle.methods.specs.Texts.{parsed, Reading, method_reading, part_words, words, room_of, method_prefix, method_text, is_method_text, prefix_store, text_store}
 use Rattle.methods.specs.Grammar.{Parameters, MethodDescriptor, FewDimensions, FewInMethod, reading_at, parameter_count, parameter_parts, return_parts}
 
 -- A text has one derivation: proved as `one_derivation`
@@ -21,7 +21,7 @@ OneBeginning = (s t u v : List ℕ) → MethodDescriptor s → MethodDescriptor 
 abbrev pub accepted : Reading → Bool
 accepted (Reading.parameter at f r) = accepted r
 accepted (Reading.ended f used) = true
-accepted (Reading.refused n p) = false
+accepted (Reading.refused r) = false
 
 -- what is left at `at` begins with a return descriptor, V only as all of it: its parts and the place after it
 abbrev pub BeginsReturn : ℕ → List ℕ → FieldDescriptor → ℕ → Type 0
@@ -65,13 +65,13 @@ pub record DerivedBeginning (s : List ℕ) (count : ℕ) (f : FieldDescriptor) (
 abbrev pub PrefixDerived : Type 0
 PrefixDerived =
     (room : ℕ) (s : List ℕ) (count : ℕ) (f : FieldDescriptor) (used : ℕ)
-    → method_prefix room s ≡ method.Parsed count f used → DerivedBeginning s count f used
+    → method_prefix room s ≡ parsed count f used → DerivedBeginning s count f used
 
 -- Each parameter has a byte, so there are fewer than the limit's bytes: proved as `few_parameters`
 abbrev pub FewParameters : Type 0
 FewParameters =
     (room : ℕ) (s : List ℕ) (count : ℕ) (f : FieldDescriptor) (used : ℕ)
-    → method_prefix room s ≡ method.Parsed count f used → count < text_limit
+    → method_prefix room s ≡ parsed count f used → count < text_limit
 
 -- the whole text, within the limits and the store's room, is derived
 pub record DerivedMethod (room : ℕ) (s : List ℕ) (count : ℕ) (f : FieldDescriptor) (used : ℕ) : Type 0 where
@@ -87,7 +87,7 @@ pub record DerivedMethod (room : ℕ) (s : List ℕ) (count : ℕ) (f : FieldDes
 abbrev pub MethodTextExactly : Type 0
 MethodTextExactly =
     (room : ℕ) (s : List ℕ) (count : ℕ) (f : FieldDescriptor) (used : ℕ)
-    → (method_text room s ≡ method.Parsed count f used) ↔ DerivedMethod room s count f used
+    → (method_text room s ≡ parsed count f used) ↔ DerivedMethod room s count f used
 
 -- the words of parts, record after record
 unfoldable pub all_words : List FieldDescriptor → List ℕ
@@ -98,32 +98,32 @@ all_words (f ∷ fs) = words f ++ all_words fs
 -- proved as `accepted_store`
 abbrev pub AcceptedStore : Type 0
 AcceptedStore =
-    (store s : List ℕ) (count : ℕ) (f : FieldDescriptor) (used : ℕ) → method_text (room_of store) s ≡ method.Parsed count f used
+    (store s : List ℕ) (count : ℕ) (f : FieldDescriptor) (used : ℕ) → method_text (room_of store) s ≡ parsed count f used
     → (tree : MethodDescriptor s) → text_store store s ≡ all_words (parameter_parts tree) ++ drop (count * part_words) store
 
 -- Refused, every word of the store is zero: proved as `refused_store`
 abbrev pub RefusedStore : Type 0
 RefusedStore =
-    (store s : List ℕ) (n p : ℕ) → method_text (room_of store) s ≡ method.Refused n p → text_store store s ≡ replicate (length store) 0
+    (store s : List ℕ) (r : Refusal ℕ) → method_text (room_of store) s ≡ Err r → text_store store s ≡ replicate (length store) 0
 
 -- The same after a prefix reading, with the parts of the derivable beginning: proved as `accepted_prefix_store` and
 -- `refused_prefix_store`
 abbrev pub AcceptedPrefixStore : Type 0
 AcceptedPrefixStore =
-    (store s : List ℕ) (count : ℕ) (f : FieldDescriptor) (used : ℕ) → method_prefix (room_of store) s ≡ method.Parsed count f used
+    (store s : List ℕ) (count : ℕ) (f : FieldDescriptor) (used : ℕ) → method_prefix (room_of store) s ≡ parsed count f used
     → (b : DerivedBeginning s count f used) × (prefix_store store s ≡ all_words (parameter_parts b.tree) ++ drop (count * part_words) store)
 
 abbrev pub RefusedPrefixStore : Type 0
 RefusedPrefixStore =
-    (store s : List ℕ) (n p : ℕ) → method_prefix (room_of store) s ≡ method.Refused n p → prefix_store store s ≡ replicate (length store) 0
+    (store s : List ℕ) (r : Refusal ℕ) → method_prefix (room_of store) s ≡ Err r → prefix_store store s ≡ replicate (length store) 0
 
 -- A whole reading is a prefix reading with nothing left over: proved as `whole_is_prefix`
 abbrev pub WholeIsPrefix : Type 0
 WholeIsPrefix =
     (room : ℕ) (s : List ℕ) (count : ℕ) (f : FieldDescriptor) (used : ℕ)
-    → (method_text room s ≡ method.Parsed count f used) ↔ ((method_prefix room s ≡ method.Parsed count f used) × (used ≡ length s))
+    → (method_text room s ≡ parsed count f used) ↔ ((method_prefix room s ≡ parsed count f used) × (used ≡ length s))
 
 -- The yes/no check agrees with the reading, given room: proved as `check_agrees`
 abbrev pub CheckAgrees : Type 0
 CheckAgrees =
-    (s : List ℕ) → So (is_method_text s) ↔ ((room count : ℕ) × (f : FieldDescriptor) × (used : ℕ) × (method_text room s ≡ method.Parsed count f used))
+    (s : List ℕ) → So (is_method_text s) ↔ ((room count : ℕ) × (f : FieldDescriptor) × (used : ℕ) × (method_text room s ≡ parsed count f used))

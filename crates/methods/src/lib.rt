@@ -2,56 +2,96 @@
 // text: a parameter is read once.
 #![tactic(auto)]
 
-ghost use Rattle.std.specs.Prelude.{◌≡◌, ◌+◌, ◌*◌, ◌≤◌, length, drop};
+ghost use Rattle.std.specs.Prelude.{◌≡◌, ℕ, ◌+◌, ◌*◌, ◌≤◌, true, false, List, [], Option, Some, None, length, drop, MatchResult};
 ghost use Rattle.std.proofs.lemmas.List.Edits.{sets};
-ghost use Rattle.laws.specs.Bytes.{text_limit};
-ghost use Rattle.methods.specs.Texts.{part_words, words, room_of, next_from, rest_reading, within, answer_from, store_from, opening, method_reading, whole, is_accepted, method_prefix, method_text, method_check, filled, store_after, prefix_store, text_store, is_method_text};
+ghost use Rattle.methods.specs.Texts.{part_words, words, room_of, next_from, rest_reading, within_room, has_room, answer_from, store_from, opening, method_reading, method_prefix, method_text, method_check, store_after, prefix_store, text_store, is_method_text};
 
-use class_names::OVER_THE_LIMIT;
-use descriptors::{Field, FieldDescriptor, LEFT_OVER};
-use laws::TEXT_LIMIT;
-
-// Document 01's refusals that only a method descriptor gets.
-pub const NO_PARENTHESIS: u32 = 29;
-
-pub const NO_RECORD_LEFT: u32 = 30;
+use descriptors::{FieldDescriptor, Parsed, all_used};
+use refusals::{Reason, Refusal};
+use texts::Text;
 
 // The words of a parameter's record. On paper: `part_words`.
 pub const PART_WORDS: usize = 4;
 
-// What a reading finds: the number of parameters, the return part and the bytes used, or a refusal's number and its place.
+// The number of parameters and the return part.
 #[derive(Clone, Copy)]
-pub enum Method {
-    Parsed(usize, FieldDescriptor, usize),
-    Refused(u32, usize),
+pub struct MethodDescriptor {
+    pub parameters: usize,
+    pub returned: FieldDescriptor,
 }
 
-// What stands where a parameter may: a parameter and the offset after it, `)` and the return part with the bytes used,
-// or a refusal.
+// What a reading finds: the descriptor with the bytes used, or a refusal.
+pub type Method = Parsed<MethodDescriptor>;
+
+// What stands where a parameter may: a parameter and the offset after it, or `)` and the return part with the bytes used.
 #[derive(Clone, Copy)]
 pub enum Next {
     Parameter(FieldDescriptor, usize),
     Return(FieldDescriptor, usize),
-    Refused(u32, usize),
 }
 
-fn next_part(text: &[u8], at: usize) -> Next
-    requires { length text.now ≤ text_limit }
-    ensures { result ≡ next_from at (drop at text.now) }
+#[tactic(auto, using(crate::proofs::Laws::return_read, crate::proofs::Laws::parameter_read))]
+fn next_part(text: Text, at: usize) -> Result<Next, Refusal<usize>>
+    ensures { result ≡ next_from at (drop at text.entry.bytes.now) }
 {
-    if descriptors::begins_with(text, at, b')') {
-        match descriptors::return_at(text, at + 1) {
-            Field::Parsed(part, used) => {
-                return Next::Return(part, used);
-            }
-            Field::Refused(number, place) => {
-                return Next::Refused(number, place);
-            }
-        }
+    if descriptors::begins_with(text.bytes, at, b')') {
+        let (part, used) = descriptors::return_at(text, at + 1)?;
+        return Ok(Next::Return(part, used));
     }
-    match descriptors::field_at(text, at) {
-        Field::Parsed(part, next) => Next::Parameter(part, next),
-        Field::Refused(number, place) => Next::Refused(number, place),
+    let (part, next) = descriptors::field_at(text, at)?;
+    Ok(Next::Parameter(part, next))
+}
+
+// Where the parts of the parameters go.
+trait PartStore {
+    // The words that stand there, how many parts there is room for, and the borrow by which it is lent.
+    ghost stored: { Self → List ℕ };
+
+    ghost room: { Self → Option ℕ };
+
+    ghost lent: { Self → ℕ };
+
+    // The part of the parameter at an index goes there, if there is room.
+    fn keep(&mut self, index: usize, part: FieldDescriptor) -> bool
+        ensures answer { result ≡ has_room (room self.old) index }
+        ensures kept { result ≡ true → stored self.new ≡ sets (stored self.old) (index * part_words) (words part) }
+        ensures full { result ≡ false → stored self.new ≡ stored self.old }
+        ensures same { (room self.new ≡ room self.old) × (lent self.new ≡ lent self.old) };
+}
+
+// A lent store: the records stand at its front.
+#[derive(Drop)]
+struct Words<'a>(&'a mut [u32]);
+
+impl<'a> PartStore for Words<'a> {
+    ghost stored = { λ s. s.0.now };
+
+    ghost room = { λ s. Some (room_of s.0.now) };
+
+    ghost lent = { λ s. s.0.ghost_name };
+
+    fn keep(&mut self, index: usize, part: FieldDescriptor) -> bool {
+        let fits = index < self.0.len() / PART_WORDS;
+        if fits {
+            put_part(self.0, index, part);
+        }
+        fits
+    }
+}
+
+// No store: the parts go nowhere, and there is always room.
+#[derive(Drop)]
+struct NoStore;
+
+impl PartStore for NoStore {
+    ghost stored = { λ _. [] };
+
+    ghost room = { λ _. None };
+
+    ghost lent = { λ _. 0 };
+
+    fn keep(&mut self, _index: usize, _part: FieldDescriptor) -> bool {
+        true
     }
 }
 
@@ -61,127 +101,73 @@ fn put_part(store: &mut [u32], index: usize, part: FieldDescriptor)
     ensures { store.new ≡ sets store.old (index * part_words) (words part) }
 {
     let at = index * PART_WORDS;
-    store[at] = part.dimensions;
-    store[at + 1] = part.letter;
-    store[at + 2] = part.start;
-    store[at + 3] = part.length;
+    let record = [part.dimensions, part.letter, part.start, part.length];
+    store[at..at + PART_WORDS].copy_from_slice(&record);
 }
 
-// What stands after `(`, the parameters' records at the front of the store. A refusal leaves those read before it there.
-fn read_rest(text: &[u8], store: &mut [u32]) -> Method
-    requires { (length text.now ≤ text_limit) × (1 ≤ length text.now) }
-    ensures answers { result ≡ answer_from 0 (within (room_of store.old) (rest_reading text.now)) }
-    ensures fills { store.new ≡ store_from store.old 0 (within (room_of store.old) (rest_reading text.now)) }
+// What stands after `(`, the parameters' parts kept. A refusal leaves those read before it there.
+fn read_rest<S: PartStore>(text: Text, store: &mut S) -> Method
+    requires { 1 ≤ length text.bytes.now }
+    ensures answers { result ≡ answer_from 0 (within_room (S.room store.old) (rest_reading text.entry.bytes.now)) }
+    ensures fills { S.stored store.new ≡ store_from (S.stored store.old) 0 (within_room (S.room store.old) (rest_reading text.entry.bytes.now)) }
+    ensures same { S.lent store.new ≡ S.lent store.old }
 {
-    let room = store.len() / PART_WORDS;
-    let mut count = 0;
+    let mut parameters = 0;
+    // Where the next part starts: only the part before it says so, so no range or iterator counts this loop.
     let mut at = 1;
     loop {
-        match next_part(text, at) {
-            Next::Refused(number, place) => {
-                return Method::Refused(number, place);
-            }
-            Next::Return(part, used) => {
-                return Method::Parsed(count, part, used);
+        match next_part(text, at)? {
+            Next::Return(returned, used) => {
+                return Ok((
+                    MethodDescriptor {
+                        parameters,
+                        returned,
+                    },
+                    used,
+                ));
             }
             Next::Parameter(part, next) => {
-                if count == room {
-                    return Method::Refused(NO_RECORD_LEFT, at);
+                if !store.keep(parameters, part) {
+                    return Err(Reason::NoPartLeft.at(at));
                 }
-                put_part(store, count, part);
-                count += 1;
+                parameters += 1;
                 at = next;
             }
         }
     }
 }
 
-// The same with no store.
-fn check_rest(text: &[u8]) -> Method
-    requires { (length text.now ≤ text_limit) × (1 ≤ length text.now) }
-    ensures { result ≡ answer_from 0 (rest_reading text.now) }
+// The text, which opens with a parenthesis.
+#[tactic(auto, using(crate::proofs::Laws::opening_over, crate::proofs::Laws::opens, crate::proofs::Laws::opens_not))]
+fn opened<'a>(text: &'a [u8]) -> Result<Text<'a>, Refusal<usize>>
+    ensures { MatchResult result (λ t. (t.bytes.now ≡ text.now) × (opening text.now ≡ Ok tt)) (λ r. opening text.now ≡ Err r) }
 {
-    let mut count = 0;
-    let mut at = 1;
-    loop {
-        match next_part(text, at) {
-            Next::Refused(number, place) => {
-                return Method::Refused(number, place);
-            }
-            Next::Return(part, used) => {
-                return Method::Parsed(count, part, used);
-            }
-            Next::Parameter(_, next) => {
-                count += 1;
-                at = next;
-            }
-        }
+    let text = Text::new(text)?;
+    if !descriptors::begins_with(text.bytes, 0, b'(') {
+        return Err(Reason::NoParenthesis.at(0));
     }
-}
-
-// The refusal that the length or the first byte of a text gives, or 0.
-fn opening_refusal(text: &[u8]) -> u32
-    ensures { result ≡ opening text.now }
-{
-    if TEXT_LIMIT < text.len() {
-        return OVER_THE_LIMIT;
-    }
-    if descriptors::begins_with(text, 0, b'(') {
-        return 0;
-    }
-    NO_PARENTHESIS
-}
-
-// A reading of a text of so many bytes that must use them all.
-fn all_used(length: usize, reading: Method) -> Method
-    ensures { result ≡ whole length reading }
-{
-    match reading {
-        Method::Parsed(count, part, used) => {
-            if used < length {
-                return Method::Refused(LEFT_OVER, used);
-            }
-            Method::Parsed(count, part, used)
-        }
-        Method::Refused(number, place) => Method::Refused(number, place),
-    }
+    Ok(text)
 }
 
 // The answer, the store cleared if it is a refusal.
+#[tactic(auto, using(crate::proofs::Laws::settled_read, crate::proofs::Laws::settled_refused))]
 fn settled(store: &mut [u32], answer: Method) -> Method
     ensures same { result ≡ answer }
     ensures clears { store.new ≡ store_after answer store.old }
 {
-    match answer {
-        Method::Parsed(count, part, used) => Method::Parsed(count, part, used),
-        Method::Refused(number, place) => {
-            store::clear(store);
-            Method::Refused(number, place)
-        }
+    if answer.is_err() {
+        store::clear(store);
     }
+    answer
 }
 
-// The descriptor read, the parameters' records at the front of the store. A refusal leaves those read before it there.
-fn read_method(text: &[u8], store: &mut [u32]) -> Method
-    ensures answers { result ≡ method_prefix (room_of store.old) text.now }
-    ensures fills { store.new ≡ filled store.old text.now }
+// The descriptor read, the parameters' parts kept. A refusal leaves those read before it there.
+fn read_method<S: PartStore>(text: &[u8], store: &mut S) -> Method
+    ensures answers { result ≡ answer_from 0 (within_room (S.room store.old) (method_reading text.now)) }
+    ensures fills { S.stored store.new ≡ store_from (S.stored store.old) 0 (within_room (S.room store.old) (method_reading text.now)) }
+    ensures same { S.lent store.new ≡ S.lent store.old }
 {
-    let refusal = opening_refusal(text);
-    if refusal != 0 {
-        return Method::Refused(refusal, 0);
-    }
-    read_rest(text, store)
-}
-
-// The same with no store.
-fn check_method(text: &[u8]) -> Method
-    ensures { result ≡ answer_from 0 (method_reading text.now) }
-{
-    let refusal = opening_refusal(text);
-    if refusal != 0 {
-        return Method::Refused(refusal, 0);
-    }
-    check_rest(text)
+    read_rest(opened(text)?, store)
 }
 
 // The method descriptor that a text begins with; what follows it is ignored.
@@ -189,7 +175,7 @@ pub fn method_prefix(text: &[u8], store: &mut [u32]) -> Method
     ensures answers { result ≡ method_prefix (room_of store.old) text.now }
     ensures stores { store.new ≡ prefix_store store.old text.now }
 {
-    let answer = read_method(text, store);
+    let answer = read_method(text, &mut Words(store));
     settled(store, answer)
 }
 
@@ -198,7 +184,7 @@ pub fn method_whole(text: &[u8], store: &mut [u32]) -> Method
     ensures answers { result ≡ method_text (room_of store.old) text.now }
     ensures stores { store.new ≡ text_store store.old text.now }
 {
-    let answer = all_used(text.len(), read_method(text, store));
+    let answer = all_used(text.len(), read_method(text, &mut Words(store)));
     settled(store, answer)
 }
 
@@ -206,20 +192,11 @@ pub fn method_whole(text: &[u8], store: &mut [u32]) -> Method
 pub fn method_check(text: &[u8]) -> Method
     ensures { result ≡ method_check text.now }
 {
-    all_used(text.len(), check_method(text))
-}
-
-fn is_accepted(reading: Method) -> bool
-    ensures { result ≡ is_accepted reading }
-{
-    match reading {
-        Method::Parsed(_, _, _) => true,
-        Method::Refused(_, _) => false,
-    }
+    all_used(text.len(), read_method(text, &mut NoStore))
 }
 
 pub fn is_method_descriptor(text: &[u8]) -> bool
     ensures { result ≡ is_method_text text.now }
 {
-    is_accepted(method_check(text))
+    method_check(text).is_ok()
 }

@@ -2,7 +2,6 @@
 use Rattle.std.specs.Prelude.{ℕ, List, [], ◌∷◌, ◌++◌, map, get_or, replicate}
 use Prim.Native.String.{String}
 use Rattle.laws.specs.Bytes.{ascii}
-use Rattle.phrases.specs.Texts.{table}
 
 -- in the order of the bytes, and none for a byte that is no instruction
 unfoldable pub mnemonics : List String
@@ -69,9 +68,6 @@ mnemonics =
     ∷ replicate 51 ""
     -- fe, ff
     ++ "impdep1" ∷ "impdep2" ∷ []
-
-unfoldable pub mnemonic_table : List ℕ
-mnemonic_table = table (map ascii mnemonics)
 
 unfoldable pub mnemonic_of : ℕ → List ℕ
 mnemonic_of byte = get_or (map ascii mnemonics) byte []

@@ -1,13 +1,14 @@
 // The mnemonics of the instructions.
 #![tactic(auto)]
 
-ghost use Rattle.std.specs.Prelude.{◌≡◌, ◌+◌, ◌≤◌, length};
-ghost use Rattle.phrases.specs.Puts.{Puts};
-ghost use Rattle.mnemonics.specs.Mnemonics.{mnemonic_table, mnemonic_of};
+ghost use Rattle.phrases.specs.Wrote.{HasRoom, Wrote};
+ghost use Rattle.mnemonics.specs.Mnemonics.{mnemonic_of};
+
+use phrases::Line;
 
 // The mnemonic of each byte, each ended by a bar (JVMS 6.5 and 7).
-const MNEMONICS: [u8; 1546] =
-    *b"nop|aconst_null|iconst_m1|iconst_0|iconst_1|iconst_2|iconst_3|iconst_4|iconst_5|\
+const MNEMONICS: &[u8] =
+    b"nop|aconst_null|iconst_m1|iconst_0|iconst_1|iconst_2|iconst_3|iconst_4|iconst_5|\
     lconst_0|lconst_1|fconst_0|fconst_1|fconst_2|dconst_0|dconst_1|\
     bipush|sipush|ldc|ldc_w|ldc2_w|\
     iload|lload|fload|dload|aload|\
@@ -39,25 +40,19 @@ const MNEMONICS: [u8; 1546] =
     |||||||||||||||||||||||||||||||||||||||||||||||||||\
     impdep1|impdep2|";
 
-fn texts() -> [u8; 1546]
-    ensures { result ≡ mnemonic_table }
-{
-    MNEMONICS
-}
-
 // The mnemonic of a kind, which is the byte of an instruction, and nothing for any other number.
-pub fn put_kind(kind: u32, out: &mut [u8], at: usize) -> usize
-    requires { at + 15 ≤ length out.old }
-    ensures { Puts 15 out.old at (mnemonic_of kind) out.new result }
+#[tactic(auto, using(crate::proofs::Table::named, crate::proofs::Table::name_short))]
+pub fn put_kind(line: &mut Line<'_>, kind: u32)
+    requires { HasRoom 15 line.old }
+    ensures { Wrote 15 line.old (mnemonic_of kind) line.new }
 {
-    let table = texts();
-    phrases::put_item(&table, kind as usize, out, at)
+    line.item(MNEMONICS, kind as usize);
 }
 
 // The mnemonic of a byte of the code.
-pub fn put_mnemonic(byte: u8, out: &mut [u8], at: usize) -> usize
-    requires { at + 15 ≤ length out.old }
-    ensures { Puts 15 out.old at (mnemonic_of byte) out.new result }
+pub fn put_mnemonic(line: &mut Line<'_>, byte: u8)
+    requires { HasRoom 15 line.old }
+    ensures { Wrote 15 line.old (mnemonic_of byte) line.new }
 {
-    put_kind(byte as u32, out, at)
+    put_kind(line, u32::from(byte));
 }

@@ -1,27 +1,37 @@
 -- The answers at a place of the text: the byte at i decides with the rest from i + 1 on.
 use Prim.Native.Nat.{ℕ, ◌+◌, ◌≤◌, ◌<◌}
-use mathlib.Core.Bool.{Bool, true, false, ◌&&◌, and_assoc, and-false}
+use mathlib.Core.Bool.{Bool, true, false, not, false≢true, ◌&&◌, and-false}
 use mathlib.Core.List.{List, [], ◌∷◌}
 use mathlib.Core.Path.{◌≡◌, refl, sym, ap, ◌∙◌}
 use native.Mathlib.Omega.{arith}
-use borrow.Author.Tests.{eq-eqb, ne_eqb, lt-ltb, le-leb}
-use lib.Dec.{ltb}
+use borrow.Author.Tests.{eq-eqb, ne_eqb, eqb-true, eqb-false, le-leb, lt-leb}
+use lib.Dec.{eqb}
+use lib.Pointwise.{pointwise}
 use lib.ListN.{length, get_or, drop}
-use Rattle.laws.specs.Bytes.{byte, ascii, every, same_text}
-use Rattle.laws.proofs.Bytes.{other_text}
-use Rattle.laws.proofs.Lists.{here}
-use Rattle.names.specs.Names.{name_byte, name_text, is_method_name, segments, before, plain_module_byte, escapable, module_rest}
+use Rattle.laws.specs.Bytes.{byte, ascii, every, same_text, within_limit, text_limit}
+use Rattle.laws.proofs.Bytes.{same_text_lem}
+use Rattle.laws.proofs.Lists.{here, done}
+use Rattle.std.specs.Bool.{◌==◌, nat_eq}
+use Rattle.std.specs.List.{list_all, slice_split, onto_first}
+use Rattle.std.proofs.lemmas.List.Splits.{slice_split-cons_yes, slice_split-cons_no}
+use Rattle.names.specs.Names.{name_byte, name_text, is_method_name, segments, before, is_unqualified_name, is_binary_name, is_module_name, plain_module_byte, escapable, module_rest}
+
+-- the library's test on all elements
+pub every_list_all : {A : Type 0} (p : A → Bool) (s : List A) → list_all p s ≡ every p s
+unfolding every
+every_list_all p [] = refl
+every_list_all p (a ∷ s) = ap (λ (t : Bool). p a && t) (every_list_all p s)
 
 -- the text of a name, by all of its bytes
-pub bad_text : (in_method : Bool) (s : List ℕ) → every (name_byte in_method) s ≡ false → name_text in_method s ≡ false
+pub some_bytes : (in_method : Bool) (s : List ℕ) → (length s == 0) ≡ false → list_all (name_byte in_method) s ≡ name_text in_method s
 unfolding name_text
-bad_text in_method [] e = refl
-bad_text in_method (b ∷ s) e = e
+some_bytes in_method [] e = absurd (false≢true (sym e))
+some_bytes in_method (b ∷ s) e = every_list_all (name_byte in_method) (b ∷ s)
 
-pub good_text : (in_method : Bool) (s : List ℕ) → every (name_byte in_method) s ≡ true → name_text in_method s ≡ ltb 0 (length s)
+pub no_bytes : (in_method : Bool) (s : List ℕ) → (length s == 0) ≡ true → false ≡ name_text in_method s
 unfolding name_text
-good_text in_method [] e = refl
-good_text in_method (b ∷ s) e = e ∙ sym (lt-ltb 0 (length (b ∷ s)) (omega arith))
+no_bytes in_method [] e = refl
+no_bytes in_method (b ∷ s) e = absurd (omega (arith, eqb-true (length (b ∷ s)) 0 e))
 
 -- the special names pass as their flags say: < bars them elsewhere
 pub init_alone : (init clinit : Bool) → is_method_name init clinit (ascii "<init>") ≡ init
@@ -37,29 +47,28 @@ clinit_alone true false = refl
 clinit_alone false true = refl
 clinit_alone false false = refl
 
-pub neither_special : (init clinit : Bool) (s : List ℕ) → length s ≤ 65535 → (s ≡ ascii "<init>" → ⊥) → (s ≡ ascii "<clinit>" → ⊥) → is_method_name init clinit s ≡ name_text true s
-unfolding is_method_name
-neither_special init clinit s short i c =
-    rw (le-leb _ _ short, other_text s (ascii "<init>") i, other_text s (ascii "<clinit>") c, and-false init, and-false clinit)
+pub same_pointwise : (s t : List ℕ) → pointwise nat_eq s t ≡ same_text s t
+unfolding same_text
+same_pointwise [] [] = refl
+same_pointwise [] (c ∷ t) = refl
+same_pointwise (b ∷ s) [] = refl
+same_pointwise (b ∷ s) (c ∷ t) = ap (λ (same : Bool). eqb b c && same) (same_pointwise s t)
 
--- the segments that are left, where the first of them may have begun before
-pub names_left : Bool → List (List ℕ) → Bool
-names_left started [] = true
-names_left true (w ∷ ws) = every (name_byte false) w && every (name_text false) ws
-names_left false (w ∷ ws) = every (name_text false) (w ∷ ws)
+-- the answers by the comparisons with the two special names
+module _ (init clinit : Bool) (s : List ℕ) {t : List ℕ} (special : t ≡ ascii "<init>") where
+  pub is_init : pointwise nat_eq s t ≡ true → init ≡ is_method_name init clinit s
+  is_init e = sym (ap (is_method_name init clinit) ((same_text_lem s t).0 (sym (same_pointwise s t) ∙ e) ∙ special) ∙ init_alone init clinit)
 
-pub none_begun : (s : List ℕ) → names_left false (segments s) ≡ every (name_text false) (segments s)
-unfolding names_left every
-none_begun s = go (segments s)
-  where
-    go : (ws : List (List ℕ)) → names_left false ws ≡ every (name_text false) ws
-    go [] = refl
-    go (w ∷ ws) = refl
+  module _ {u : List ℕ} (special₂ : u ≡ ascii "<clinit>") where
+    pub is_clinit : pointwise nat_eq s u ≡ true → clinit ≡ is_method_name init clinit s
+    is_clinit e = sym (ap (is_method_name init clinit) ((same_text_lem s u).0 (sym (same_pointwise s u) ∙ e) ∙ special₂) ∙ clinit_alone init clinit)
 
-pub names_end : (started : Bool) → names_left started (segments []) ≡ started
-unfolding names_left segments every name_text
-names_end true = refl
-names_end false = refl
+    pub neither_special : pointwise nat_eq s t ≡ false → pointwise nat_eq s u ≡ false → (within_limit s && name_text true s) ≡ is_method_name init clinit s
+    unfolding is_method_name
+    neither_special i c =
+        let no_init : same_text s (ascii "<init>") ≡ false = ap (same_text s) (sym special) ∙ sym (same_pointwise s t) ∙ i in
+        let no_clinit : same_text s (ascii "<clinit>") ≡ false = ap (same_text s) (sym special₂) ∙ sym (same_pointwise s u) ∙ c in
+        rw (no_init, no_clinit, and-false init, and-false clinit)
 
 pub slash_segments : (b : ℕ) (s : List ℕ) → b ≡ byte "/" → segments (b ∷ s) ≡ [] ∷ segments s
 unfolding segments
@@ -69,18 +78,44 @@ pub byte_segments : (b : ℕ) (s : List ℕ) → (b ≡ byte "/" → ⊥) → se
 unfolding segments
 byte_segments b s e = rw (ne_eqb b (byte "/") e, segments)
 
-slash_first : (started : Bool) (ws : List (List ℕ)) → names_left started ([] ∷ ws) ≡ (started && names_left false ws)
-unfolding names_left every name_text
-slash_first true [] = refl
-slash_first true (w ∷ ws) = refl
-slash_first false ws = refl
+-- the parts that the library's split gives
+pub split_segments : (s : List ℕ) → slice_split (λ b. eqb b (byte "/")) s ≡ segments s
+unfolding segments
+split_segments [] = refl
+split_segments (b ∷ s) = go (split_segments s) (eqb b (byte "/")) refl
+  where
+    onto_before : (ws : List (List ℕ)) → onto_first b ws ≡ before b ws
+    onto_before [] = unfold before in refl
+    onto_before (w ∷ ws) = unfold before in refl
 
-byte_first : (started : Bool) (b : ℕ) (ws : List (List ℕ)) → names_left started (before b ws) ≡ (name_byte false b && names_left true ws)
-unfolding names_left before every name_text
-byte_first true b [] = and_assoc (name_byte false b) true true
-byte_first false b [] = and_assoc (name_byte false b) true true
-byte_first true b (w ∷ ws) = and_assoc (name_byte false b) (every (name_byte false) w) (every (name_text false) ws)
-byte_first false b (w ∷ ws) = and_assoc (name_byte false b) (every (name_byte false) w) (every (name_text false) ws)
+    go : slice_split (λ b. eqb b (byte "/")) s ≡ segments s → (slash : Bool) → eqb b (byte "/") ≡ slash → slice_split (λ b. eqb b (byte "/")) (b ∷ s) ≡ segments (b ∷ s)
+    go rest true e = slice_split-cons_yes (λ b. eqb b (byte "/")) b s e ∙ ap (λ (ws : List (List ℕ)). [] ∷ ws) rest ∙ sym (slash_segments b s (eqb-true _ _ e))
+    go rest false e = slice_split-cons_no (λ b. eqb b (byte "/")) b s e ∙ onto_before (slice_split (λ b. eqb b (byte "/")) s) ∙ ap (before b) rest ∙ sym (byte_segments b s (eqb-false _ _ e))
+
+module _ (s : List ℕ) where
+  pub unqualified_within : length s ≤ text_limit → name_text false s ≡ is_unqualified_name s
+  unfolding is_unqualified_name
+  unqualified_within h = rw (le-leb _ _ h)
+
+  pub unqualified_over : text_limit < length s → false ≡ is_unqualified_name s
+  unfolding is_unqualified_name
+  unqualified_over h = rw (lt-leb _ _ h)
+
+  pub binary_within : length s ≤ text_limit → list_all (name_text false) (slice_split (λ b. eqb b (byte "/")) s) ≡ is_binary_name s
+  unfolding is_binary_name
+  binary_within h = every_list_all (name_text false) _ ∙ ap (every (name_text false)) (split_segments s) ∙ rw (le-leb _ _ h)
+
+  pub binary_over : text_limit < length s → false ≡ is_binary_name s
+  unfolding is_binary_name
+  binary_over h = rw (lt-leb _ _ h)
+
+  pub module_within : length s ≤ text_limit → module_rest false s ≡ is_module_name s
+  unfolding is_module_name
+  module_within h = rw (le-leb _ _ h)
+
+  pub module_over : text_limit < length s → false ≡ is_module_name s
+  unfolding is_module_name
+  module_over h = rw (lt-leb _ _ h)
 
 pub opens_first : (b : ℕ) (s : List ℕ) → b ≡ byte "\\" → module_rest false (b ∷ s) ≡ module_rest true s
 unfolding module_rest
@@ -91,25 +126,31 @@ unfolding module_rest
 plain_first b s o =
     ap (λ (opens : Bool). elim opens as (λ t. Bool) [ true ↦ module_rest true s | false ↦ plain_module_byte b && module_rest false s ]) (ne_eqb _ _ o)
 
-module _ (s : List ℕ) (i : ℕ) (h : i < length s) where
-  slash_at : (started : Bool) → get_or s i 0 ≡ byte "/" → names_left started (segments (drop i s)) ≡ (started && names_left false (segments (drop (i + 1) s)))
-  slash_at started e = ap (names_left started) (here segments s i h ∙ slash_segments _ _ e) ∙ slash_first started _
+-- The loop of a module's name: what is left at the place i decides as the whole.
+module _ (escaped : Bool) (i : ℕ) (s : List ℕ) {whole : Bool} (left : module_rest escaped (drop i s) ≡ whole) where
+  module _ (inside : i < length s) where
+    first : {t : Bool} → module_rest escaped (get_or s i 0 ∷ drop (i + 1) s) ≡ t → t ≡ whole
+    first e = sym (here (module_rest escaped) s i inside ∙ e) ∙ left
 
-  pub empty_at : {started : Bool} → started ≡ false → get_or s i 0 ≡ byte "/" → names_left started (segments (drop i s)) ≡ false
-  empty_at {started} none e = slash_at started e ∙ rw none
+    escaped_first : escaped ≡ true → module_rest escaped (get_or s i 0 ∷ drop (i + 1) s) ≡ (escapable (get_or s i 0) && module_rest false (drop (i + 1) s))
+    unfolding module_rest
+    escaped_first e = rw e
 
-  pub closes_at : {started : Bool} → started ≡ true → get_or s i 0 ≡ byte "/" → names_left started (segments (drop i s)) ≡ names_left false (segments (drop (i + 1) s))
-  closes_at {started} some e = slash_at started e ∙ rw some
+    pub bad_pair_there : escaped ≡ true → escapable (get_or s i 0) ≡ false → false ≡ whole
+    bad_pair_there e p = first (escaped_first e ∙ rw p)
 
-  pub byte_at : (started : Bool) → (get_or s i 0 ≡ byte "/" → ⊥) → names_left started (segments (drop i s)) ≡ (name_byte false (get_or s i 0) && names_left true (segments (drop (i + 1) s)))
-  byte_at started e = ap (names_left started) (here segments s i h ∙ byte_segments _ _ e) ∙ byte_first started _ _
+    pub pair_there : escaped ≡ true → escapable (get_or s i 0) ≡ true → module_rest false (drop (i + 1) s) ≡ whole
+    pair_there e p = first (escaped_first e ∙ rw p)
 
-  pub escaped_at : {escaped : Bool} → escaped ≡ true → module_rest escaped (drop i s) ≡ (escapable (get_or s i 0) && module_rest false (drop (i + 1) s))
+    pub opens_there : escaped ≡ false → get_or s i 0 ≡ byte "\\" → module_rest true (drop (i + 1) s) ≡ whole
+    opens_there e o = first (rw e (opens_first _ _ o))
+
+    pub bad_plain_there : escaped ≡ false → (get_or s i 0 ≡ byte "\\" → ⊥) → plain_module_byte (get_or s i 0) ≡ false → false ≡ whole
+    bad_plain_there e o p = first (rw e (plain_first _ _ o ∙ rw p))
+
+    pub plain_there : escaped ≡ false → (get_or s i 0 ≡ byte "\\" → ⊥) → plain_module_byte (get_or s i 0) ≡ true → module_rest escaped (drop (i + 1) s) ≡ whole
+    plain_there e o p = first (rw e (plain_first _ _ o ∙ rw p))
+
+  pub end_there : length s ≤ i → not escaped ≡ whole
   unfolding module_rest
-  escaped_at {escaped} e = here (module_rest escaped) s i h ∙ rw e
-
-  pub opens_at : {escaped : Bool} → escaped ≡ false → get_or s i 0 ≡ byte "\\" → module_rest escaped (drop i s) ≡ module_rest true (drop (i + 1) s)
-  opens_at {escaped} e o = here (module_rest escaped) s i h ∙ rw e (opens_first _ _ o)
-
-  pub plain_at : {escaped : Bool} → escaped ≡ false → (get_or s i 0 ≡ byte "\\" → ⊥) → module_rest escaped (drop i s) ≡ (plain_module_byte (get_or s i 0) && module_rest escaped (drop (i + 1) s))
-  plain_at {escaped} e o = here (module_rest escaped) s i h ∙ rw e (plain_first _ _ o)
+  end_there past = sym (done (module_rest escaped) s i past) ∙ left

@@ -11,25 +11,22 @@ use laws::TEXT_LIMIT;
 fn is_name_byte(b: u8, in_method: bool) -> bool
     ensures { result ≡ name_byte in_method b }
 {
-    let barred = (b == b'.') | (b == b';') | (b == b'[') | (b == b'/');
-    !(barred | (in_method & ((b == b'<') | (b == b'>'))))
+    match b {
+        b'.' | b';' | b'[' | b'/' => false,
+        b'<' | b'>' => !in_method,
+        _ => true,
+    }
 }
 
 // Whether a text has a byte, and only bytes that may stand in a name.
 fn is_name_text(text: &[u8], in_method: bool) -> bool
     ensures { result ≡ name_text in_method text.now }
 {
-    let mut i = 0;
-    while i < text.len() {
-        if !is_name_byte(text[i], in_method) {
-            return false;
-        }
-        i += 1;
-    }
-    0 < text.len()
+    !text.is_empty() && text.iter().all(|b| is_name_byte(*b, in_method))
 }
 
 // JVMS 4.2.2: a name of a field, a local variable or a formal parameter.
+#[tactic(auto, using(crate::proofs::Laws::unqualified_within, crate::proofs::Laws::unqualified_over))]
 pub fn is_unqualified_name(name: &[u8]) -> bool
     ensures { result ≡ is_unqualified_name name.now }
 {
@@ -37,64 +34,46 @@ pub fn is_unqualified_name(name: &[u8]) -> bool
 }
 
 // JVMS 4.2.2: a name of a method. Each flag says whether that special name is allowed too.
+#[tactic(auto, using(crate::proofs::Laws::is_init, crate::proofs::Laws::is_clinit, crate::proofs::Laws::neither_special))]
 pub fn is_unqualified_method_name(name: &[u8], allow_init: bool, allow_clinit: bool) -> bool
     ensures { result ≡ is_method_name allow_init allow_clinit name.now }
 {
-    if TEXT_LIMIT < name.len() {
-        return false;
-    }
-    if check::same(name, b"<init>") {
+    if name == b"<init>".as_slice() {
         return allow_init;
     }
-    if check::same(name, b"<clinit>") {
+    if name == b"<clinit>".as_slice() {
         return allow_clinit;
     }
-    is_name_text(name, true)
+    name.len() <= TEXT_LIMIT && is_name_text(name, true)
 }
 
 // JVMS 4.2.1: unqualified names with a `/` between each two.
+#[tactic(auto, using(crate::proofs::Laws::binary_over))]
 pub fn is_binary_name(name: &[u8]) -> bool
     ensures { result ≡ is_binary_name name.now }
 {
-    if TEXT_LIMIT < name.len() {
-        return false;
-    }
-    // Whether the segment that is being read has a byte yet.
-    let mut started = false;
-    let mut i = 0;
-    while i < name.len() {
-        let b = name[i];
-        i += 1;
-        if b == b'/' {
-            if !started {
-                return false;
-            }
-            started = false;
-            continue;
-        }
-        if !is_name_byte(b, false) {
-            return false;
-        }
-        started = true;
-    }
-    started
+    name.len() <= TEXT_LIMIT
+        && name
+            .split(|b| *b == b'/')
+            .all(|segment| is_name_text(segment, false))
 }
 
 // Whether a byte may stand in a module's name by itself. A `\` may not: it opens a pair.
 fn is_plain_module_byte(b: u8) -> bool
     ensures { result ≡ plain_module_byte b }
 {
-    !((b < 0x20) | ((b == b':') | (b == b'@') | (b == b'\\')))
+    !matches!(b, 0..0x20 | b':' | b'@' | b'\\')
 }
 
 // Whether a byte may follow the `\` that opens a pair.
 fn is_escapable(b: u8) -> bool
     ensures { result ≡ escapable b }
 {
-    (b == b'\\') | (b == b':') | (b == b'@')
+    matches!(b, b'\\' | b':' | b'@')
 }
 
 // JVMS 4.2.3: `\` stands only in the pairs `\\`, `\:` and `\@`, taken from the left. The empty name is one.
+#[tactic(auto, using(crate::proofs::Laws::module_within, crate::proofs::Laws::module_over, crate::proofs::Laws::bad_pair_there, crate::proofs::Laws::pair_there, crate::proofs::Laws::opens_there, crate::proofs::Laws::bad_plain_there, crate::proofs::Laws::plain_there, crate::proofs::Laws::end_there))]
 pub fn is_module_name(name: &[u8]) -> bool
     ensures { result ≡ is_module_name name.now }
 {
@@ -103,22 +82,15 @@ pub fn is_module_name(name: &[u8]) -> bool
     }
     // Whether the byte before opened a pair.
     let mut escaped = false;
-    let mut i = 0;
-    while i < name.len() {
-        let b = name[i];
-        i += 1;
+    for &b in name {
         if escaped {
             if !is_escapable(b) {
                 return false;
             }
             escaped = false;
-            continue;
-        }
-        if b == b'\\' {
+        } else if b == b'\\' {
             escaped = true;
-            continue;
-        }
-        if !is_plain_module_byte(b) {
+        } else if !is_plain_module_byte(b) {
             return false;
         }
     }

@@ -1,76 +1,89 @@
--- The code finds kinds and forms after wide by arithmetic. It agrees with the lists, computed once over all bytes.
+-- The code finds kinds and forms after wide by ranges. It agrees with the lists, computed once over each range.
 use Prim.Native.Nat.{ℕ, ◌+◌, ◌-◌, ◌/◌, ◌≤◌, ◌<◌, zero-le}
-use mathlib.Core.Bool.{Bool, true, false, ◌&&◌, ◌||◌}
-use mathlib.Core.Path.{◌≡◌, refl, sym, ◌∙◌}
+use mathlib.Core.Path.{◌≡◌, refl, ap, sym}
 use native.Mathlib.Omega.{arith}
-use borrow.Author.Tests.{leb-true, leb-false, le-leb, lt-leb, ne_eqb}
-use lib.Dec.{eqb, leb}
 use lib.ListN.{get_or-eq_default}
 use Rattle.laws.specs.Listed.{listed}
 use Rattle.laws.proofs.Listed.{listed_same}
-use Rattle.opcodes.specs.declared.WideForm.{WideForm}
 use Rattle.opcodes.specs.declared.WideForm.TheVariants as wide
 use Rattle.opcodes.specs.InstructionKinds.{instruction_kinds, kind_of}
 use Rattle.opcodes.specs.Wide.{wide_forms, wide_form_of}
 
-unfoldable pub kind_by : ℕ → ℕ
-kind_by byte =
-    elim (leb 0x1a byte && leb byte 0x2d) [
-      | true ↦ 0x15 + (byte - 0x1a) / 4
-      | false ↦ elim (leb 0x3b byte && leb byte 0x4e) [
-        | true ↦ 0x36 + (byte - 0x3b) / 4
-        | false ↦ elim (eqb byte 0xc8) [ true ↦ 0xa7 | false ↦ elim (eqb byte 0xc9) [ true ↦ 0xa8 | false ↦ byte ] ]
-      ]
-    ]
+-- what is computed over the bytes from one up to another, which is not among them
+run : {A : Type 0} (f g : ℕ → A) (from n : ℕ) → listed f from n ≡ listed g from n → (b : ℕ) → from ≤ b → b < from + n → f b ≡ g b
+run f g from n e b = listed_same f g n from e b
 
-all_kinds : listed kind_by 0 256 ≡ listed kind_of 0 256
-unfolding listed kind_by instruction_kinds kind_of
-all_kinds = refl
+module _ (b : ℕ) where
+  pub short_load : 0x1a ≤ b → b ≤ 0x2d → 0x15 + (b - 0x1a) / 4 ≡ kind_of b
+  unfolding listed instruction_kinds kind_of
+  short_load h k = run (λ (x : ℕ). 0x15 + (x - 0x1a) / 4) kind_of 0x1a 20 refl b h (omega arith)
 
-pub kind_by_lem : {r byte : ℕ} → byte < 256 → r ≡ kind_by byte → r ≡ kind_of byte
-kind_by_lem {r} {byte} small e = e ∙ listed_same kind_by kind_of 256 0 all_kinds byte zero-le (omega arith)
+  pub short_store : 0x3b ≤ b → b ≤ 0x4e → 0x36 + (b - 0x3b) / 4 ≡ kind_of b
+  unfolding listed instruction_kinds kind_of
+  short_store h k = run (λ (x : ℕ). 0x36 + (x - 0x3b) / 4) kind_of 0x3b 20 refl b h (omega arith)
 
-abbrev is_wide_local : ℕ → Bool
-is_wide_local byte = (leb 0x15 byte && leb byte 0x19) || (leb 0x36 byte && leb byte 0x3a) || eqb byte 0xa9
+  pub long_goto : b ≡ 0xc8 → 0xa7 ≡ kind_of b
+  unfolding instruction_kinds kind_of
+  long_goto e = ap kind_of (sym e)
 
-unfoldable pub wide_form_by : ℕ → WideForm
-wide_form_by byte =
-    elim (is_wide_local byte) [
-      | true ↦ wide.Local
-      | false ↦ elim (eqb byte 0x84) [ true ↦ wide.Increment | false ↦ wide.NoInstruction ]
-    ]
+  pub long_jsr : b ≡ 0xc9 → 0xa8 ≡ kind_of b
+  unfolding instruction_kinds kind_of
+  long_jsr e = ap kind_of (sym e)
 
-all_forms : listed wide_form_by 0 170 ≡ listed wide_form_of 0 170
-unfolding listed wide_form_by wide_forms wide_form_of
-all_forms = refl
+  -- every other byte is its own kind
+  pub own_to_aload : b < 0x1a → b ≡ kind_of b
+  unfolding listed instruction_kinds kind_of
+  own_to_aload h = run (λ (x : ℕ). x) kind_of 0 0x1a refl b zero-le h
 
--- past ret there is no form either way
-past_by : (byte : ℕ) → 170 ≤ byte → wide_form_by byte ≡ wide.NoInstruction
-unfolding wide_form_by
-past_by byte h =
-    let above_iload : 0x15 ≤ byte = omega arith in
-    let past_aload : 0x19 < byte = omega arith in
-    let above_istore : 0x36 ≤ byte = omega arith in
-    let past_astore : 0x3a < byte = omega arith in
-    rw (
-      le-leb _ _ above_iload,
-      lt-leb _ _ past_aload,
-      le-leb _ _ above_istore,
-      lt-leb _ _ past_astore,
-      ne_eqb byte 0xa9 (λ e. omega arith),
-      ne_eqb byte 0x84 (λ e. omega arith),
-      wide_form_by,
-    )
+  pub own_to_astore : 0x2d < b → b < 0x3b → b ≡ kind_of b
+  unfolding listed instruction_kinds kind_of
+  own_to_astore h k = run (λ (x : ℕ). x) kind_of 0x2e 13 refl b h (omega arith)
 
-past_listed : (byte : ℕ) → 170 ≤ byte → wide_form_of byte ≡ wide.NoInstruction
-unfolding wide_form_of wide_forms
-past_listed byte h = get_or-eq_default wide_forms wide.NoInstruction h
+  pub own_to_ifnonnull : 0x4e < b → b < 0xc8 → b ≡ kind_of b
+  unfolding listed instruction_kinds kind_of
+  own_to_ifnonnull h k = run (λ (x : ℕ). x) kind_of 0x4f 121 refl b h (omega arith)
 
-pub wide_form_by_lem : (byte : ℕ) → wide_form_by byte ≡ wide_form_of byte
-wide_form_by_lem byte = go (leb 170 byte) refl
-  where
-    go : (t : Bool) → leb 170 byte ≡ t → wide_form_by byte ≡ wide_form_of byte
-    go true q =
-        let past : 170 ≤ byte = leb-true _ _ q in
-        past_by byte past ∙ sym (past_listed byte past)
-    go false q = listed_same wide_form_by wide_form_of 170 0 all_forms byte zero-le (let small : byte < 170 = leb-false _ _ q in omega arith)
+  pub own_to_impdep2 : 0xc9 < b → b < 256 → b ≡ kind_of b
+  unfolding listed instruction_kinds kind_of
+  own_to_impdep2 h k = run (λ (x : ℕ). x) kind_of 0xca 54 refl b h (omega arith)
+
+  pub wide_load : 0x15 ≤ b → b ≤ 0x19 → wide.Local ≡ wide_form_of b
+  unfolding listed wide_forms wide_form_of
+  wide_load h k = run (λ (x : ℕ). wide.Local) wide_form_of 0x15 5 refl b h (omega arith)
+
+  pub wide_store : 0x36 ≤ b → b ≤ 0x3a → wide.Local ≡ wide_form_of b
+  unfolding listed wide_forms wide_form_of
+  wide_store h k = run (λ (x : ℕ). wide.Local) wide_form_of 0x36 5 refl b h (omega arith)
+
+  pub wide_ret : b ≡ 0xa9 → wide.Local ≡ wide_form_of b
+  unfolding wide_forms wide_form_of
+  wide_ret e = ap wide_form_of (sym e)
+
+  pub wide_iinc : b ≡ 0x84 → wide.Increment ≡ wide_form_of b
+  unfolding wide_forms wide_form_of
+  wide_iinc e = ap wide_form_of (sym e)
+
+  -- wide modifies no other byte
+  pub none_to_ldc2_w : b < 0x15 → wide.NoInstruction ≡ wide_form_of b
+  unfolding listed wide_forms wide_form_of
+  none_to_ldc2_w h = run (λ (x : ℕ). wide.NoInstruction) wide_form_of 0 0x15 refl b zero-le h
+
+  pub none_to_saload : 0x19 < b → b < 0x36 → wide.NoInstruction ≡ wide_form_of b
+  unfolding listed wide_forms wide_form_of
+  none_to_saload h k = run (λ (x : ℕ). wide.NoInstruction) wide_form_of 0x1a 28 refl b h (omega arith)
+
+  pub none_to_lxor : 0x3a < b → b < 0x84 → wide.NoInstruction ≡ wide_form_of b
+  unfolding listed wide_forms wide_form_of
+  none_to_lxor h k = run (λ (x : ℕ). wide.NoInstruction) wide_form_of 0x3b 73 refl b h (omega arith)
+
+  pub none_to_jsr : 0x84 < b → b < 0xa9 → wide.NoInstruction ≡ wide_form_of b
+  unfolding listed wide_forms wide_form_of
+  none_to_jsr h k = run (λ (x : ℕ). wide.NoInstruction) wide_form_of 0x85 36 refl b h (omega arith)
+
+  pub none_past_ret : 0xa9 < b → wide.NoInstruction ≡ wide_form_of b
+  unfolding wide_form_of wide_forms
+  none_past_ret h = sym (get_or-eq_default wide_forms wide.NoInstruction h)
+
+pub ruleset kinds_by_range = (short_load, short_store, long_goto, long_jsr, own_to_aload, own_to_astore, own_to_ifnonnull, own_to_impdep2)
+
+pub ruleset forms_by_range = (wide_load, wide_store, wide_ret, wide_iinc, none_to_ldc2_w, none_to_saload, none_to_lxor, none_to_jsr, none_past_ret)

@@ -1,5 +1,5 @@
--- JVMS 6.5: the operand format of each byte, and the table that the code lends.
-use Rattle.std.specs.Prelude.{ℕ, List, [], ◌∷◌, ◌++◌, map, ◌≡◌, get_or, replicate}
+-- JVMS 6.5: the operand format of each byte.
+use Rattle.std.specs.Prelude.{ℕ, List, [], ◌∷◌, ◌++◌, get_or, replicate}
 use Rattle.pool.specs.declared.Kinds.{Kinds}
 use Rattle.pool.specs.declared.Kinds.TheVariants as kinds
 use Rattle.opcodes.specs.declared.Follow.TheVariants as follow
@@ -85,58 +85,3 @@ formats =
 
 unfoldable pub format_of : ℕ → Format
 format_of byte = get_or formats byte format.NoInstruction
-
--- the formats by the numbers that the code's table holds, and every other number stands for no instruction
-abbrev pub layouts : List Format
-layouts =
-    format.Plain
-    ∷ format.SignedByte
-    ∷ format.SignedShort
-    ∷ format.Index1 kinds.Loadable
-    ∷ index kinds.Loadable
-    ∷ format.Local
-    ∷ four
-    ++ format.Increment
-    ∷ format.Jump2
-    ∷ format.Jump4
-    ∷ index kinds.Field
-    ∷ index kinds.Method
-    ∷ index kinds.MethodOrInterfaceMethod
-    ∷ format.Index2 kinds.InterfaceMethod follow.CountAndZero
-    ∷ format.Index2 kinds.InvokeDynamic follow.TwoZeros
-    ∷ index kinds.Class
-    ∷ format.ArrayTag
-    ∷ format.Index2 kinds.Class follow.Count
-    ∷ format.Wide
-    ∷ format.TableSwitch
-    ∷ format.LookupSwitch
-    ∷ []
-
-unfoldable pub numbered : ℕ → Format
-numbered number = get_or layouts number format.NoInstruction
-
--- the code's table, a row for each high digit of the byte. There is nothing to believe here: it is computed that it
--- represents the formats
-unfoldable pub numbers : List ℕ
-numbers =
-    0 ∷ 0 ∷ 0 ∷ 0 ∷ 0 ∷ 0 ∷ 0 ∷ 0 ∷ 0 ∷ 0 ∷ 0 ∷ 0 ∷ 0 ∷ 0 ∷ 0 ∷ 0
-    ∷ 1 ∷ 2 ∷ 3 ∷ 4 ∷ 4 ∷ 5 ∷ 5 ∷ 5 ∷ 5 ∷ 5 ∷ 6 ∷ 7 ∷ 8 ∷ 9 ∷ 6 ∷ 7
-    ∷ 8 ∷ 9 ∷ 6 ∷ 7 ∷ 8 ∷ 9 ∷ 6 ∷ 7 ∷ 8 ∷ 9 ∷ 6 ∷ 7 ∷ 8 ∷ 9 ∷ 0 ∷ 0
-    ∷ 0 ∷ 0 ∷ 0 ∷ 0 ∷ 0 ∷ 0 ∷ 5 ∷ 5 ∷ 5 ∷ 5 ∷ 5 ∷ 6 ∷ 7 ∷ 8 ∷ 9 ∷ 6
-    ∷ 7 ∷ 8 ∷ 9 ∷ 6 ∷ 7 ∷ 8 ∷ 9 ∷ 6 ∷ 7 ∷ 8 ∷ 9 ∷ 6 ∷ 7 ∷ 8 ∷ 9 ∷ 0
-    ∷ 0 ∷ 0 ∷ 0 ∷ 0 ∷ 0 ∷ 0 ∷ 0 ∷ 0 ∷ 0 ∷ 0 ∷ 0 ∷ 0 ∷ 0 ∷ 0 ∷ 0 ∷ 0
-    ∷ 0 ∷ 0 ∷ 0 ∷ 0 ∷ 0 ∷ 0 ∷ 0 ∷ 0 ∷ 0 ∷ 0 ∷ 0 ∷ 0 ∷ 0 ∷ 0 ∷ 0 ∷ 0
-    ∷ 0 ∷ 0 ∷ 0 ∷ 0 ∷ 0 ∷ 0 ∷ 0 ∷ 0 ∷ 0 ∷ 0 ∷ 0 ∷ 0 ∷ 0 ∷ 0 ∷ 0 ∷ 0
-    ∷ 0 ∷ 0 ∷ 0 ∷ 0 ∷ 10 ∷ 0 ∷ 0 ∷ 0 ∷ 0 ∷ 0 ∷ 0 ∷ 0 ∷ 0 ∷ 0 ∷ 0 ∷ 0
-    ∷ 0 ∷ 0 ∷ 0 ∷ 0 ∷ 0 ∷ 0 ∷ 0 ∷ 0 ∷ 0 ∷ 11 ∷ 11 ∷ 11 ∷ 11 ∷ 11 ∷ 11 ∷ 11
-    ∷ 11 ∷ 11 ∷ 11 ∷ 11 ∷ 11 ∷ 11 ∷ 11 ∷ 11 ∷ 11 ∷ 5 ∷ 22 ∷ 23 ∷ 0 ∷ 0 ∷ 0 ∷ 0
-    ∷ 0 ∷ 0 ∷ 13 ∷ 13 ∷ 13 ∷ 13 ∷ 14 ∷ 15 ∷ 15 ∷ 16 ∷ 17 ∷ 18 ∷ 19 ∷ 18 ∷ 0 ∷ 0
-    ∷ 18 ∷ 18 ∷ 0 ∷ 0 ∷ 21 ∷ 20 ∷ 11 ∷ 11 ∷ 12 ∷ 12 ∷ 0 ∷ 31 ∷ 31 ∷ 31 ∷ 31 ∷ 31
-    ∷ 31 ∷ 31 ∷ 31 ∷ 31 ∷ 31 ∷ 31 ∷ 31 ∷ 31 ∷ 31 ∷ 31 ∷ 31 ∷ 31 ∷ 31 ∷ 31 ∷ 31 ∷ 31
-    ∷ 31 ∷ 31 ∷ 31 ∷ 31 ∷ 31 ∷ 31 ∷ 31 ∷ 31 ∷ 31 ∷ 31 ∷ 31 ∷ 31 ∷ 31 ∷ 31 ∷ 31 ∷ 31
-    ∷ 31 ∷ 31 ∷ 31 ∷ 31 ∷ 31 ∷ 31 ∷ 31 ∷ 31 ∷ 31 ∷ 31 ∷ 31 ∷ 31 ∷ 31 ∷ 31 ∷ 0 ∷ 0
-    ∷ []
-
--- a table of numbers represents the formats, byte by byte
-pub record Represents (table : List ℕ) : Type 0 where
-  pub all : map numbered table ≡ formats

@@ -2,13 +2,19 @@
 #![tactic(auto)]
 
 ghost use Rattle.std.specs.Prelude.{◌≡◌};
-ghost use Rattle.opcodes.specs.Formats.{numbers, numbered, format_of, Represents};
+ghost use Rattle.opcodes.specs.Formats.{format_of};
 ghost use Rattle.opcodes.specs.Wide.{wide_form_of};
 ghost use Rattle.opcodes.specs.InstructionKinds.{kind_of};
 
+use Follow::{Count, CountAndZero, Nothing, TwoZeros};
+use Format::{
+    ArrayTag, ImpliedLocal, Increment, Index1, Index2, Jump2, Jump4, Local, LookupSwitch,
+    NoInstruction, Plain, SignedByte, SignedShort, TableSwitch, Wide,
+};
 use pool::Kinds;
 
-// What follows a pool index of two bytes: nothing, a count, a count and a zero byte, or two zero bytes.
+// What follows a pool index of two bytes: nothing, a count, a count and a zero byte, or two zero bytes. No `Option`: nothing is
+// one of four formats, each with a row in JVMS 6.5.
 #[derive(Clone, Copy)]
 pub enum Follow {
     Nothing,
@@ -45,396 +51,297 @@ pub enum WideForm {
     NoInstruction,
 }
 
-// The number of each format in the table. An array of numbers is small and quick to index.
-const PLAIN: u8 = 0;
-
-const SIGNED_BYTE: u8 = 1;
-
-const SIGNED_SHORT: u8 = 2;
-
-const LOADABLE_1: u8 = 3;
-
-const LOADABLE_2: u8 = 4;
-
-const LOCAL: u8 = 5;
-
-const LOCAL_0: u8 = 6;
-
-const LOCAL_1: u8 = 7;
-
-const LOCAL_2: u8 = 8;
-
-const LOCAL_3: u8 = 9;
-
-const INCREMENT: u8 = 10;
-
-const JUMP_2: u8 = 11;
-
-const JUMP_4: u8 = 12;
-
-const FIELD: u8 = 13;
-
-const METHOD: u8 = 14;
-
-const ANY_METHOD: u8 = 15;
-
-const INTERFACE_METHOD: u8 = 16;
-
-const INVOKE_DYNAMIC: u8 = 17;
-
-const CLASS: u8 = 18;
-
-const ARRAY_TAG: u8 = 19;
-
-const CLASS_AND_DIMENSIONS: u8 = 20;
-
-const WIDE: u8 = 21;
-
-const TABLE_SWITCH: u8 = 22;
-
-const LOOKUP_SWITCH: u8 = 23;
-
-// Not the next free number, so that a new format does not move it.
-const NO_INSTRUCTION: u8 = 31;
-
-// The format of each byte, with its mnemonic (JVMS 6.5 and 7).
-const FORMATS: [u8; 256] = [
-    PLAIN, // 00 nop
-    PLAIN, // 01 aconst_null
-    PLAIN, // 02 iconst_m1
-    PLAIN, // 03 iconst_0
-    PLAIN, // 04 iconst_1
-    PLAIN, // 05 iconst_2
-    PLAIN, // 06 iconst_3
-    PLAIN, // 07 iconst_4
-    PLAIN, // 08 iconst_5
-    PLAIN, // 09 lconst_0
-    PLAIN, // 0a lconst_1
-    PLAIN, // 0b fconst_0
-    PLAIN, // 0c fconst_1
-    PLAIN, // 0d fconst_2
-    PLAIN, // 0e dconst_0
-    PLAIN, // 0f dconst_1
-    SIGNED_BYTE, // 10 bipush
-    SIGNED_SHORT, // 11 sipush
-    LOADABLE_1, // 12 ldc
-    LOADABLE_2, // 13 ldc_w
-    LOADABLE_2, // 14 ldc2_w
-    LOCAL, // 15 iload
-    LOCAL, // 16 lload
-    LOCAL, // 17 fload
-    LOCAL, // 18 dload
-    LOCAL, // 19 aload
-    LOCAL_0, // 1a iload_0
-    LOCAL_1, // 1b iload_1
-    LOCAL_2, // 1c iload_2
-    LOCAL_3, // 1d iload_3
-    LOCAL_0, // 1e lload_0
-    LOCAL_1, // 1f lload_1
-    LOCAL_2, // 20 lload_2
-    LOCAL_3, // 21 lload_3
-    LOCAL_0, // 22 fload_0
-    LOCAL_1, // 23 fload_1
-    LOCAL_2, // 24 fload_2
-    LOCAL_3, // 25 fload_3
-    LOCAL_0, // 26 dload_0
-    LOCAL_1, // 27 dload_1
-    LOCAL_2, // 28 dload_2
-    LOCAL_3, // 29 dload_3
-    LOCAL_0, // 2a aload_0
-    LOCAL_1, // 2b aload_1
-    LOCAL_2, // 2c aload_2
-    LOCAL_3, // 2d aload_3
-    PLAIN, // 2e iaload
-    PLAIN, // 2f laload
-    PLAIN, // 30 faload
-    PLAIN, // 31 daload
-    PLAIN, // 32 aaload
-    PLAIN, // 33 baload
-    PLAIN, // 34 caload
-    PLAIN, // 35 saload
-    LOCAL, // 36 istore
-    LOCAL, // 37 lstore
-    LOCAL, // 38 fstore
-    LOCAL, // 39 dstore
-    LOCAL, // 3a astore
-    LOCAL_0, // 3b istore_0
-    LOCAL_1, // 3c istore_1
-    LOCAL_2, // 3d istore_2
-    LOCAL_3, // 3e istore_3
-    LOCAL_0, // 3f lstore_0
-    LOCAL_1, // 40 lstore_1
-    LOCAL_2, // 41 lstore_2
-    LOCAL_3, // 42 lstore_3
-    LOCAL_0, // 43 fstore_0
-    LOCAL_1, // 44 fstore_1
-    LOCAL_2, // 45 fstore_2
-    LOCAL_3, // 46 fstore_3
-    LOCAL_0, // 47 dstore_0
-    LOCAL_1, // 48 dstore_1
-    LOCAL_2, // 49 dstore_2
-    LOCAL_3, // 4a dstore_3
-    LOCAL_0, // 4b astore_0
-    LOCAL_1, // 4c astore_1
-    LOCAL_2, // 4d astore_2
-    LOCAL_3, // 4e astore_3
-    PLAIN, // 4f iastore
-    PLAIN, // 50 lastore
-    PLAIN, // 51 fastore
-    PLAIN, // 52 dastore
-    PLAIN, // 53 aastore
-    PLAIN, // 54 bastore
-    PLAIN, // 55 castore
-    PLAIN, // 56 sastore
-    PLAIN, // 57 pop
-    PLAIN, // 58 pop2
-    PLAIN, // 59 dup
-    PLAIN, // 5a dup_x1
-    PLAIN, // 5b dup_x2
-    PLAIN, // 5c dup2
-    PLAIN, // 5d dup2_x1
-    PLAIN, // 5e dup2_x2
-    PLAIN, // 5f swap
-    PLAIN, // 60 iadd
-    PLAIN, // 61 ladd
-    PLAIN, // 62 fadd
-    PLAIN, // 63 dadd
-    PLAIN, // 64 isub
-    PLAIN, // 65 lsub
-    PLAIN, // 66 fsub
-    PLAIN, // 67 dsub
-    PLAIN, // 68 imul
-    PLAIN, // 69 lmul
-    PLAIN, // 6a fmul
-    PLAIN, // 6b dmul
-    PLAIN, // 6c idiv
-    PLAIN, // 6d ldiv
-    PLAIN, // 6e fdiv
-    PLAIN, // 6f ddiv
-    PLAIN, // 70 irem
-    PLAIN, // 71 lrem
-    PLAIN, // 72 frem
-    PLAIN, // 73 drem
-    PLAIN, // 74 ineg
-    PLAIN, // 75 lneg
-    PLAIN, // 76 fneg
-    PLAIN, // 77 dneg
-    PLAIN, // 78 ishl
-    PLAIN, // 79 lshl
-    PLAIN, // 7a ishr
-    PLAIN, // 7b lshr
-    PLAIN, // 7c iushr
-    PLAIN, // 7d lushr
-    PLAIN, // 7e iand
-    PLAIN, // 7f land
-    PLAIN, // 80 ior
-    PLAIN, // 81 lor
-    PLAIN, // 82 ixor
-    PLAIN, // 83 lxor
-    INCREMENT, // 84 iinc
-    PLAIN, // 85 i2l
-    PLAIN, // 86 i2f
-    PLAIN, // 87 i2d
-    PLAIN, // 88 l2i
-    PLAIN, // 89 l2f
-    PLAIN, // 8a l2d
-    PLAIN, // 8b f2i
-    PLAIN, // 8c f2l
-    PLAIN, // 8d f2d
-    PLAIN, // 8e d2i
-    PLAIN, // 8f d2l
-    PLAIN, // 90 d2f
-    PLAIN, // 91 i2b
-    PLAIN, // 92 i2c
-    PLAIN, // 93 i2s
-    PLAIN, // 94 lcmp
-    PLAIN, // 95 fcmpl
-    PLAIN, // 96 fcmpg
-    PLAIN, // 97 dcmpl
-    PLAIN, // 98 dcmpg
-    JUMP_2, // 99 ifeq
-    JUMP_2, // 9a ifne
-    JUMP_2, // 9b iflt
-    JUMP_2, // 9c ifge
-    JUMP_2, // 9d ifgt
-    JUMP_2, // 9e ifle
-    JUMP_2, // 9f if_icmpeq
-    JUMP_2, // a0 if_icmpne
-    JUMP_2, // a1 if_icmplt
-    JUMP_2, // a2 if_icmpge
-    JUMP_2, // a3 if_icmpgt
-    JUMP_2, // a4 if_icmple
-    JUMP_2, // a5 if_acmpeq
-    JUMP_2, // a6 if_acmpne
-    JUMP_2, // a7 goto
-    JUMP_2, // a8 jsr
-    LOCAL, // a9 ret
-    TABLE_SWITCH, // aa tableswitch
-    LOOKUP_SWITCH, // ab lookupswitch
-    PLAIN, // ac ireturn
-    PLAIN, // ad lreturn
-    PLAIN, // ae freturn
-    PLAIN, // af dreturn
-    PLAIN, // b0 areturn
-    PLAIN, // b1 return
-    FIELD, // b2 getstatic
-    FIELD, // b3 putstatic
-    FIELD, // b4 getfield
-    FIELD, // b5 putfield
-    METHOD, // b6 invokevirtual
-    ANY_METHOD, // b7 invokespecial
-    ANY_METHOD, // b8 invokestatic
-    INTERFACE_METHOD, // b9 invokeinterface
-    INVOKE_DYNAMIC, // ba invokedynamic
-    CLASS, // bb new
-    ARRAY_TAG, // bc newarray
-    CLASS, // bd anewarray
-    PLAIN, // be arraylength
-    PLAIN, // bf athrow
-    CLASS, // c0 checkcast
-    CLASS, // c1 instanceof
-    PLAIN, // c2 monitorenter
-    PLAIN, // c3 monitorexit
-    WIDE, // c4 wide
-    CLASS_AND_DIMENSIONS, // c5 multianewarray
-    JUMP_2, // c6 ifnull
-    JUMP_2, // c7 ifnonnull
-    JUMP_4, // c8 goto_w
-    JUMP_4, // c9 jsr_w
-    PLAIN, // ca breakpoint
-    NO_INSTRUCTION, // cb no instruction
-    NO_INSTRUCTION, // cc no instruction
-    NO_INSTRUCTION, // cd no instruction
-    NO_INSTRUCTION, // ce no instruction
-    NO_INSTRUCTION, // cf no instruction
-    NO_INSTRUCTION, // d0 no instruction
-    NO_INSTRUCTION, // d1 no instruction
-    NO_INSTRUCTION, // d2 no instruction
-    NO_INSTRUCTION, // d3 no instruction
-    NO_INSTRUCTION, // d4 no instruction
-    NO_INSTRUCTION, // d5 no instruction
-    NO_INSTRUCTION, // d6 no instruction
-    NO_INSTRUCTION, // d7 no instruction
-    NO_INSTRUCTION, // d8 no instruction
-    NO_INSTRUCTION, // d9 no instruction
-    NO_INSTRUCTION, // da no instruction
-    NO_INSTRUCTION, // db no instruction
-    NO_INSTRUCTION, // dc no instruction
-    NO_INSTRUCTION, // dd no instruction
-    NO_INSTRUCTION, // de no instruction
-    NO_INSTRUCTION, // df no instruction
-    NO_INSTRUCTION, // e0 no instruction
-    NO_INSTRUCTION, // e1 no instruction
-    NO_INSTRUCTION, // e2 no instruction
-    NO_INSTRUCTION, // e3 no instruction
-    NO_INSTRUCTION, // e4 no instruction
-    NO_INSTRUCTION, // e5 no instruction
-    NO_INSTRUCTION, // e6 no instruction
-    NO_INSTRUCTION, // e7 no instruction
-    NO_INSTRUCTION, // e8 no instruction
-    NO_INSTRUCTION, // e9 no instruction
-    NO_INSTRUCTION, // ea no instruction
-    NO_INSTRUCTION, // eb no instruction
-    NO_INSTRUCTION, // ec no instruction
-    NO_INSTRUCTION, // ed no instruction
-    NO_INSTRUCTION, // ee no instruction
-    NO_INSTRUCTION, // ef no instruction
-    NO_INSTRUCTION, // f0 no instruction
-    NO_INSTRUCTION, // f1 no instruction
-    NO_INSTRUCTION, // f2 no instruction
-    NO_INSTRUCTION, // f3 no instruction
-    NO_INSTRUCTION, // f4 no instruction
-    NO_INSTRUCTION, // f5 no instruction
-    NO_INSTRUCTION, // f6 no instruction
-    NO_INSTRUCTION, // f7 no instruction
-    NO_INSTRUCTION, // f8 no instruction
-    NO_INSTRUCTION, // f9 no instruction
-    NO_INSTRUCTION, // fa no instruction
-    NO_INSTRUCTION, // fb no instruction
-    NO_INSTRUCTION, // fc no instruction
-    NO_INSTRUCTION, // fd no instruction
-    PLAIN, // fe impdep1
-    PLAIN, // ff impdep2
+// The format of each byte, with its mnemonic (JVMS 6.5 and 7). A static, so that no call builds the table again.
+static FORMATS: [Format; 256] = [
+    Plain, // 00 nop
+    Plain, // 01 aconst_null
+    Plain, // 02 iconst_m1
+    Plain, // 03 iconst_0
+    Plain, // 04 iconst_1
+    Plain, // 05 iconst_2
+    Plain, // 06 iconst_3
+    Plain, // 07 iconst_4
+    Plain, // 08 iconst_5
+    Plain, // 09 lconst_0
+    Plain, // 0a lconst_1
+    Plain, // 0b fconst_0
+    Plain, // 0c fconst_1
+    Plain, // 0d fconst_2
+    Plain, // 0e dconst_0
+    Plain, // 0f dconst_1
+    SignedByte, // 10 bipush
+    SignedShort, // 11 sipush
+    Index1(Kinds::Loadable), // 12 ldc
+    Index2(Kinds::Loadable, Nothing), // 13 ldc_w
+    Index2(Kinds::Loadable, Nothing), // 14 ldc2_w
+    Local, // 15 iload
+    Local, // 16 lload
+    Local, // 17 fload
+    Local, // 18 dload
+    Local, // 19 aload
+    ImpliedLocal(0), // 1a iload_0
+    ImpliedLocal(1), // 1b iload_1
+    ImpliedLocal(2), // 1c iload_2
+    ImpliedLocal(3), // 1d iload_3
+    ImpliedLocal(0), // 1e lload_0
+    ImpliedLocal(1), // 1f lload_1
+    ImpliedLocal(2), // 20 lload_2
+    ImpliedLocal(3), // 21 lload_3
+    ImpliedLocal(0), // 22 fload_0
+    ImpliedLocal(1), // 23 fload_1
+    ImpliedLocal(2), // 24 fload_2
+    ImpliedLocal(3), // 25 fload_3
+    ImpliedLocal(0), // 26 dload_0
+    ImpliedLocal(1), // 27 dload_1
+    ImpliedLocal(2), // 28 dload_2
+    ImpliedLocal(3), // 29 dload_3
+    ImpliedLocal(0), // 2a aload_0
+    ImpliedLocal(1), // 2b aload_1
+    ImpliedLocal(2), // 2c aload_2
+    ImpliedLocal(3), // 2d aload_3
+    Plain, // 2e iaload
+    Plain, // 2f laload
+    Plain, // 30 faload
+    Plain, // 31 daload
+    Plain, // 32 aaload
+    Plain, // 33 baload
+    Plain, // 34 caload
+    Plain, // 35 saload
+    Local, // 36 istore
+    Local, // 37 lstore
+    Local, // 38 fstore
+    Local, // 39 dstore
+    Local, // 3a astore
+    ImpliedLocal(0), // 3b istore_0
+    ImpliedLocal(1), // 3c istore_1
+    ImpliedLocal(2), // 3d istore_2
+    ImpliedLocal(3), // 3e istore_3
+    ImpliedLocal(0), // 3f lstore_0
+    ImpliedLocal(1), // 40 lstore_1
+    ImpliedLocal(2), // 41 lstore_2
+    ImpliedLocal(3), // 42 lstore_3
+    ImpliedLocal(0), // 43 fstore_0
+    ImpliedLocal(1), // 44 fstore_1
+    ImpliedLocal(2), // 45 fstore_2
+    ImpliedLocal(3), // 46 fstore_3
+    ImpliedLocal(0), // 47 dstore_0
+    ImpliedLocal(1), // 48 dstore_1
+    ImpliedLocal(2), // 49 dstore_2
+    ImpliedLocal(3), // 4a dstore_3
+    ImpliedLocal(0), // 4b astore_0
+    ImpliedLocal(1), // 4c astore_1
+    ImpliedLocal(2), // 4d astore_2
+    ImpliedLocal(3), // 4e astore_3
+    Plain, // 4f iastore
+    Plain, // 50 lastore
+    Plain, // 51 fastore
+    Plain, // 52 dastore
+    Plain, // 53 aastore
+    Plain, // 54 bastore
+    Plain, // 55 castore
+    Plain, // 56 sastore
+    Plain, // 57 pop
+    Plain, // 58 pop2
+    Plain, // 59 dup
+    Plain, // 5a dup_x1
+    Plain, // 5b dup_x2
+    Plain, // 5c dup2
+    Plain, // 5d dup2_x1
+    Plain, // 5e dup2_x2
+    Plain, // 5f swap
+    Plain, // 60 iadd
+    Plain, // 61 ladd
+    Plain, // 62 fadd
+    Plain, // 63 dadd
+    Plain, // 64 isub
+    Plain, // 65 lsub
+    Plain, // 66 fsub
+    Plain, // 67 dsub
+    Plain, // 68 imul
+    Plain, // 69 lmul
+    Plain, // 6a fmul
+    Plain, // 6b dmul
+    Plain, // 6c idiv
+    Plain, // 6d ldiv
+    Plain, // 6e fdiv
+    Plain, // 6f ddiv
+    Plain, // 70 irem
+    Plain, // 71 lrem
+    Plain, // 72 frem
+    Plain, // 73 drem
+    Plain, // 74 ineg
+    Plain, // 75 lneg
+    Plain, // 76 fneg
+    Plain, // 77 dneg
+    Plain, // 78 ishl
+    Plain, // 79 lshl
+    Plain, // 7a ishr
+    Plain, // 7b lshr
+    Plain, // 7c iushr
+    Plain, // 7d lushr
+    Plain, // 7e iand
+    Plain, // 7f land
+    Plain, // 80 ior
+    Plain, // 81 lor
+    Plain, // 82 ixor
+    Plain, // 83 lxor
+    Increment, // 84 iinc
+    Plain, // 85 i2l
+    Plain, // 86 i2f
+    Plain, // 87 i2d
+    Plain, // 88 l2i
+    Plain, // 89 l2f
+    Plain, // 8a l2d
+    Plain, // 8b f2i
+    Plain, // 8c f2l
+    Plain, // 8d f2d
+    Plain, // 8e d2i
+    Plain, // 8f d2l
+    Plain, // 90 d2f
+    Plain, // 91 i2b
+    Plain, // 92 i2c
+    Plain, // 93 i2s
+    Plain, // 94 lcmp
+    Plain, // 95 fcmpl
+    Plain, // 96 fcmpg
+    Plain, // 97 dcmpl
+    Plain, // 98 dcmpg
+    Jump2, // 99 ifeq
+    Jump2, // 9a ifne
+    Jump2, // 9b iflt
+    Jump2, // 9c ifge
+    Jump2, // 9d ifgt
+    Jump2, // 9e ifle
+    Jump2, // 9f if_icmpeq
+    Jump2, // a0 if_icmpne
+    Jump2, // a1 if_icmplt
+    Jump2, // a2 if_icmpge
+    Jump2, // a3 if_icmpgt
+    Jump2, // a4 if_icmple
+    Jump2, // a5 if_acmpeq
+    Jump2, // a6 if_acmpne
+    Jump2, // a7 goto
+    Jump2, // a8 jsr
+    Local, // a9 ret
+    TableSwitch, // aa tableswitch
+    LookupSwitch, // ab lookupswitch
+    Plain, // ac ireturn
+    Plain, // ad lreturn
+    Plain, // ae freturn
+    Plain, // af dreturn
+    Plain, // b0 areturn
+    Plain, // b1 return
+    Index2(Kinds::Field, Nothing), // b2 getstatic
+    Index2(Kinds::Field, Nothing), // b3 putstatic
+    Index2(Kinds::Field, Nothing), // b4 getfield
+    Index2(Kinds::Field, Nothing), // b5 putfield
+    Index2(Kinds::Method, Nothing), // b6 invokevirtual
+    Index2(Kinds::MethodOrInterfaceMethod, Nothing), // b7 invokespecial
+    Index2(Kinds::MethodOrInterfaceMethod, Nothing), // b8 invokestatic
+    Index2(Kinds::InterfaceMethod, CountAndZero), // b9 invokeinterface
+    Index2(Kinds::InvokeDynamic, TwoZeros), // ba invokedynamic
+    Index2(Kinds::Class, Nothing), // bb new
+    ArrayTag, // bc newarray
+    Index2(Kinds::Class, Nothing), // bd anewarray
+    Plain, // be arraylength
+    Plain, // bf athrow
+    Index2(Kinds::Class, Nothing), // c0 checkcast
+    Index2(Kinds::Class, Nothing), // c1 instanceof
+    Plain, // c2 monitorenter
+    Plain, // c3 monitorexit
+    Wide, // c4 wide
+    Index2(Kinds::Class, Count), // c5 multianewarray
+    Jump2, // c6 ifnull
+    Jump2, // c7 ifnonnull
+    Jump4, // c8 goto_w
+    Jump4, // c9 jsr_w
+    Plain, // ca breakpoint
+    NoInstruction, // cb no instruction
+    NoInstruction, // cc no instruction
+    NoInstruction, // cd no instruction
+    NoInstruction, // ce no instruction
+    NoInstruction, // cf no instruction
+    NoInstruction, // d0 no instruction
+    NoInstruction, // d1 no instruction
+    NoInstruction, // d2 no instruction
+    NoInstruction, // d3 no instruction
+    NoInstruction, // d4 no instruction
+    NoInstruction, // d5 no instruction
+    NoInstruction, // d6 no instruction
+    NoInstruction, // d7 no instruction
+    NoInstruction, // d8 no instruction
+    NoInstruction, // d9 no instruction
+    NoInstruction, // da no instruction
+    NoInstruction, // db no instruction
+    NoInstruction, // dc no instruction
+    NoInstruction, // dd no instruction
+    NoInstruction, // de no instruction
+    NoInstruction, // df no instruction
+    NoInstruction, // e0 no instruction
+    NoInstruction, // e1 no instruction
+    NoInstruction, // e2 no instruction
+    NoInstruction, // e3 no instruction
+    NoInstruction, // e4 no instruction
+    NoInstruction, // e5 no instruction
+    NoInstruction, // e6 no instruction
+    NoInstruction, // e7 no instruction
+    NoInstruction, // e8 no instruction
+    NoInstruction, // e9 no instruction
+    NoInstruction, // ea no instruction
+    NoInstruction, // eb no instruction
+    NoInstruction, // ec no instruction
+    NoInstruction, // ed no instruction
+    NoInstruction, // ee no instruction
+    NoInstruction, // ef no instruction
+    NoInstruction, // f0 no instruction
+    NoInstruction, // f1 no instruction
+    NoInstruction, // f2 no instruction
+    NoInstruction, // f3 no instruction
+    NoInstruction, // f4 no instruction
+    NoInstruction, // f5 no instruction
+    NoInstruction, // f6 no instruction
+    NoInstruction, // f7 no instruction
+    NoInstruction, // f8 no instruction
+    NoInstruction, // f9 no instruction
+    NoInstruction, // fa no instruction
+    NoInstruction, // fb no instruction
+    NoInstruction, // fc no instruction
+    NoInstruction, // fd no instruction
+    Plain, // fe impdep1
+    Plain, // ff impdep2
 ];
 
-// The table, to be made once and lent to `format_of`.
-pub fn formats() -> [u8; 256]
-    ensures is { result ≡ numbers }
-    ensures represents { Represents result }
-{
-    FORMATS
-}
-
-fn format_numbered(number: u8) -> Format
-    ensures { result ≡ numbered number }
-{
-    match number {
-        PLAIN => Format::Plain,
-        SIGNED_BYTE => Format::SignedByte,
-        SIGNED_SHORT => Format::SignedShort,
-        LOADABLE_1 => Format::Index1(Kinds::Loadable),
-        LOADABLE_2 => Format::Index2(Kinds::Loadable, Follow::Nothing),
-        LOCAL => Format::Local,
-        LOCAL_0 => Format::ImpliedLocal(0),
-        LOCAL_1 => Format::ImpliedLocal(1),
-        LOCAL_2 => Format::ImpliedLocal(2),
-        LOCAL_3 => Format::ImpliedLocal(3),
-        INCREMENT => Format::Increment,
-        JUMP_2 => Format::Jump2,
-        JUMP_4 => Format::Jump4,
-        FIELD => Format::Index2(Kinds::Field, Follow::Nothing),
-        METHOD => Format::Index2(Kinds::Method, Follow::Nothing),
-        ANY_METHOD => Format::Index2(Kinds::MethodOrInterfaceMethod, Follow::Nothing),
-        INTERFACE_METHOD => Format::Index2(Kinds::InterfaceMethod, Follow::CountAndZero),
-        INVOKE_DYNAMIC => Format::Index2(Kinds::InvokeDynamic, Follow::TwoZeros),
-        CLASS => Format::Index2(Kinds::Class, Follow::Nothing),
-        ARRAY_TAG => Format::ArrayTag,
-        CLASS_AND_DIMENSIONS => Format::Index2(Kinds::Class, Follow::Count),
-        WIDE => Format::Wide,
-        TABLE_SWITCH => Format::TableSwitch,
-        LOOKUP_SWITCH => Format::LookupSwitch,
-        _ => Format::NoInstruction,
-    }
-}
-
 // The operand format of a byte.
-pub fn format_of(formats: &[u8; 256], byte: u8) -> Format
-    requires { Represents formats.now }
+#[tactic(auto, using(crate::proofs::Table::in_table))]
+pub fn format_of(byte: u8) -> Format
     ensures { result ≡ format_of byte }
 {
-    let number = formats[byte as usize];
-    format_numbered(number)
+    FORMATS[byte as usize]
 }
 
 // The form that `wide` gives a byte.
+#[tactic(auto, using(crate::proofs::Arithmetic::forms_by_range))]
 pub fn wide_form_of(byte: u32) -> WideForm
     ensures { result ≡ wide_form_of byte }
 {
-    if ((0x15 <= byte) & (byte <= 0x19)) | ((0x36 <= byte) & (byte <= 0x3a)) | (byte == 0xa9) {
-        return WideForm::Local;
+    match byte {
+        0x15..=0x19 | 0x36..=0x3a | 0xa9 => WideForm::Local,
+        0x84 => WideForm::Increment,
+        _ => WideForm::NoInstruction,
     }
-    if byte == 0x84 {
-        return WideForm::Increment;
-    }
-    WideForm::NoInstruction
 }
 
 // The kind under which an instruction is recorded: its byte, or that of the plain form of a short or wide one.
+#[tactic(auto, using(crate::proofs::Arithmetic::kinds_by_range))]
 pub fn kind_of(byte: u8) -> u32
     ensures { result ≡ kind_of byte }
 {
-    let opcode = byte as u32;
-    if (0x1a <= opcode) & (opcode <= 0x2d) {
-        return 0x15 + (opcode - 0x1a) / 4;
+    let opcode = u32::from(byte);
+    match byte {
+        0x1a..=0x2d => 0x15 + (opcode - 0x1a) / 4,
+        0x3b..=0x4e => 0x36 + (opcode - 0x3b) / 4,
+        0xc8 => 0xa7,
+        0xc9 => 0xa8,
+        _ => opcode,
     }
-    if (0x3b <= opcode) & (opcode <= 0x4e) {
-        return 0x36 + (opcode - 0x3b) / 4;
-    }
-    if opcode == 0xc8 {
-        return 0xa7;
-    }
-    if opcode == 0xc9 {
-        return 0xa8;
-    }
-    opcode
 }

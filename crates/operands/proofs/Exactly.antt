@@ -1,8 +1,8 @@
 -- An operand is read exactly where its picture stands.
-use Prim.Native.Nat.{ℕ, zero, suc, ◌+◌, ◌*◌, ◌^◌, ◌≤◌}
+use Prim.Native.Nat.{ℕ, ◌+◌, ◌*◌, ◌^◌, ◌≤◌}
 use mathlib.Core.Bool.{Bool, true, false, and-eq-true_iff}
 use mathlib.Core.List.{List, [], ◌∷◌, head-eq_of_cons-eq}
-use mathlib.Core.Logic.{◌↔◌, ⊎_elim}
+use mathlib.Core.Logic.{◌↔◌}
 use mathlib.Core.Path.{◌≡◌, refl, sym, ap, ◌∙◌, subst}
 use native.Mathlib.Omega.{arith}
 use borrow.Author.Tests.{leb-true, leb-false, le-leb, eqb-true, eq-eqb}
@@ -10,22 +10,20 @@ use lib.Dec.{leb, eqb}
 use lib.ListN.{length, get_or, drop, length-drop}
 use lib.Seq.{length-take-le}
 use Rattle.read.specs.declared.CodeOffset.{CodeOffset}
-use Rattle.read.specs.declared.Read.{Read}
-use Rattle.read.specs.declared.Read.TheVariants as read
-use Rattle.read.specs.Reads.{big_endian, bytes_at, after, read_of}
+use Rattle.read.specs.Reads.{Read, big_endian, bytes_at, after, read_of}
 use Rattle.read.proofs.Laws.{read_past, read_found}
+use Rattle.std.specs.Prelude.{Option, Some, None, Ok, Err}
+use Rattle.refusals.specs.declared.Reason.{Reason}
+use Rattle.refusals.specs.declared.Reason.TheVariants as reason
+use Rattle.refusals.specs.Numbers.{refused}
 use Rattle.pool.specs.declared.Kinds.{Kinds}
-use Rattle.pool.specs.declared.Entry.{Entry}
-use Rattle.pool.specs.declared.Entry.TheVariants as entry
-use Rattle.pool.specs.Entries.{entry_of_kind, HasKind}
-use Rattle.pool.proofs.Exactly.{entry_found_exactly, two_refusals}
+use Rattle.pool.specs.Entries.{Entry, entry_of_kind, HasKind}
+use Rattle.pool.proofs.Exactly.{entry_found_exactly}
 use Rattle.opcodes.specs.Operands.{Meaning, Operand}
 use Rattle.operands.specs.Checks.{signed_read, unless_fault, fault_in, index_fault, zero_fault, is_array_tag, array_tag_fault, meant, operand_at}
 use Rattle.operands.specs.Pictures.{value_of, Keeps, Named, Stand, Stands}
 use Rattle.operands.specs.Theorems.{OperandExactly}
-
-pub clash : (n v : ℕ) (p next : CodeOffset) → read.Refused n p ≡ read.Value v next → ⊥
-clash n v p next e = let z : ◌≡◌ {A = ℕ} 0 1 = cc in omega arith
+use Rattle.operands.proofs.Parts.{clash, same_first, same_end}
 
 -- a read of n bytes finds exactly the number of those that stand there
 pub record Finds (n : ℕ) (code : List ℕ) (at : CodeOffset) (v : ℕ) (next : CodeOffset) : Type 0 where
@@ -34,97 +32,93 @@ pub record Finds (n : ℕ) (code : List ℕ) (at : CodeOffset) (v : ℕ) (next :
   pub place : next ≡ after n at
 
 module _ (n : ℕ) (code : List ℕ) (at : CodeOffset) (v : ℕ) (next : CodeOffset) where
-  pub finds : read_of n code at ≡ read.Value v next → Finds n code at v next
+  pub finds : read_of n code at ≡ Ok (v, next) → Finds n code at v next
   finds e = go (leb (at.0 + n) (length code)) refl
     where
       go : (t : Bool) → leb (at.0 + n) (length code) ≡ t → Finds n code at v next
       go true q =
           let fits = leb-true _ _ q in
-          let same : read.Value (big_endian (bytes_at n code at.0)) (after n at) ≡ read.Value v next = sym (read_found n code at fits) ∙ e in
-          record { within = fits; number = cc; place = cc }
-      go false q = absurd (clash 3 v at next (sym (read_past n code at (leb-false _ _ q)) ∙ e))
+          let same : ◌≡◌ {A = Read} (Ok (v, next)) (Ok (big_endian (bytes_at n code at.0), after n at)) = sym e ∙ read_found n code at fits in
+          record { within = fits; number = same_first same; place = same_end same }
+      go false q = absurd (clash (sym (read_past n code at (leb-false _ _ q)) ∙ e))
 
-  pub found : Finds n code at v next → read_of n code at ≡ read.Value v next
+  pub found : Finds n code at v next → read_of n code at ≡ Ok (v, next)
   found f = read_found n code at f.within ∙ rw (f.number, f.place)
 
 -- a read that is checked is accepted exactly where it finds a number without a fault
-module _ (fault : ℕ → ℕ) (at : CodeOffset) where
-  unless_exactly : (found : Read) (v : ℕ) (next : CodeOffset) → (unless_fault fault at found ≡ read.Value v next) ↔ ((found ≡ read.Value v next) × (fault v ≡ 0))
+module _ (fault : ℕ → Option Reason) (at : CodeOffset) where
+  unless_exactly : (found : Read) (v : ℕ) (next : CodeOffset) → (unless_fault fault at found ≡ Ok (v, next)) ↔ ((found ≡ Ok (v, next)) × (fault v ≡ None))
   unfolding unless_fault
-  unless_exactly (read.Refused k p) v next = (λ e. absurd (clash k v p next e), λ h. absurd (clash k v p next h.0))
-  unless_exactly (read.Value w m) v next = (λ e. to (fault w) refl e, λ h. from h)
+  unless_exactly (Err r) v next = (λ e. absurd (clash e), λ h. absurd (clash h.0))
+  unless_exactly (Ok f) v next = (λ e. to (fault f.0) refl e, λ h. from h)
     where
-      to : (k : ℕ) → fault w ≡ k → unless_fault fault at (read.Value w m) ≡ read.Value v next → (read.Value w m ≡ read.Value v next) × (fault v ≡ 0)
-      to zero q e =
-          let same : read.Value w m ≡ read.Value v next = sym (rw q) ∙ e in
-          let number : w ≡ v = cc in
-          (same, ap fault (sym number) ∙ q)
-      to (suc k) q e = absurd (clash (suc k) v at next (sym (rw q) ∙ e))
+      to : (k : Option Reason) → fault f.0 ≡ k → unless_fault fault at (Ok f) ≡ Ok (v, next) → (◌≡◌ {A = Read} (Ok f) (Ok (v, next))) × (fault v ≡ None)
+      to None q e =
+          let same : ◌≡◌ {A = Read} (Ok f) (Ok (v, next)) = sym (rw q) ∙ e in
+          (same, ap fault (sym (same_first same)) ∙ q)
+      to (Some why) q e = absurd (let z : ◌≡◌ {A = Read} (Err (refused why at)) (Ok (v, next)) = sym (rw q) ∙ e in clash z)
 
-      from : (read.Value w m ≡ read.Value v next) × (fault v ≡ 0) → unless_fault fault at (read.Value w m) ≡ read.Value v next
+      from : (◌≡◌ {A = Read} (Ok f) (Ok (v, next))) × (fault v ≡ None) → unless_fault fault at (Ok f) ≡ Ok (v, next)
       from h =
-          let number : w ≡ v = cc h.0 in
-          let none : fault w ≡ 0 = ap fault number ∙ h.1 in
+          let none : fault f.0 ≡ None = ap fault (same_first h.0) ∙ h.1 in
           rw none h.0
 
 -- what a read of n bytes must have found for its meaning to have the value v
 pub record Means (pool : List ℕ) (n : ℕ) (meaning : Meaning) (found : Read) (v : ℕ) (next : CodeOffset) : Type 0 where
   pub number : ℕ
-  pub reads : found ≡ read.Value number next
+  pub reads : found ≡ Ok (number, next)
   pub value : v ≡ value_of n meaning number
   pub keeps : Keeps meaning number
   pub named : Named pool (Operand.bytes n meaning) v
 
-index_fault_lem : (pool : List ℕ) (kinds : Kinds) (v : ℕ) → (index_fault pool kinds v ≡ 0) ↔ HasKind pool kinds v
+index_fault_lem : (pool : List ℕ) (kinds : Kinds) (v : ℕ) → (index_fault pool kinds v ≡ None) ↔ HasKind pool kinds v
 index_fault_lem pool kinds v = (λ e. to (entry_of_kind pool kinds v) refl e, λ h. ap fault_in ((entry_found_exactly pool kinds v (get_or pool v 0)).1 (h, refl)))
   where
-    to : (e : Entry) → entry_of_kind pool kinds v ≡ e → fault_in (entry_of_kind pool kinds v) ≡ 0 → HasKind pool kinds v
-    to (entry.Found tag) q e = ((entry_found_exactly pool kinds v tag).0 q).0
-    to (entry.Refused n) q e =
-        let none : n ≡ 0 = ap fault_in (sym q) ∙ e in
-        absurd (⊎_elim (λ six. omega arith) (λ seven. omega arith) (two_refusals pool kinds v n q))
+    to : (e : Entry) → entry_of_kind pool kinds v ≡ e → fault_in (entry_of_kind pool kinds v) ≡ None → HasKind pool kinds v
+    to (Ok tag) q e = ((entry_found_exactly pool kinds v tag).0 q).0
+    to (Err why) q e = absurd (let z : Some why ≡ None = ap fault_in (sym q) ∙ e in cc)
 
-zero_fault_lem : (v : ℕ) → (zero_fault v ≡ 0) ↔ (v ≡ 0)
+zero_fault_lem : (v : ℕ) → (zero_fault v ≡ None) ↔ (v ≡ 0)
 zero_fault_lem v = (λ e. to (eqb v 0) refl e, λ e. rw (eq-eqb v 0 e, zero_fault))
   where
-    to : (t : Bool) → eqb v 0 ≡ t → zero_fault v ≡ 0 → v ≡ 0
+    to : (t : Bool) → eqb v 0 ≡ t → zero_fault v ≡ None → v ≡ 0
     to true q e = eqb-true v 0 q
-    to false q e = let z : ◌≡◌ {A = ℕ} 8 0 = sym (rw (q, zero_fault)) ∙ e in absurd (omega arith)
+    to false q e = absurd (let z : Some reason.NotZero ≡ None = sym (rw (q, zero_fault)) ∙ e in cc)
 
-tag_fault : (v : ℕ) → (array_tag_fault v ≡ 0) ↔ ((4 ≤ v) × (v ≤ 11))
+tag_fault : (v : ℕ) → (array_tag_fault v ≡ None) ↔ ((4 ≤ v) × (v ≤ 11))
 tag_fault v = (λ e. to (is_array_tag v) refl e, λ h. rw ((and-eq-true_iff (leb 4 v) (leb v 11)).1 (le-leb 4 v h.0, le-leb v 11 h.1), array_tag_fault))
   where
-    to : (t : Bool) → is_array_tag v ≡ t → array_tag_fault v ≡ 0 → (4 ≤ v) × (v ≤ 11)
+    to : (t : Bool) → is_array_tag v ≡ t → array_tag_fault v ≡ None → (4 ≤ v) × (v ≤ 11)
     to true q e =
         let both = (and-eq-true_iff (leb 4 v) (leb v 11)).0 q in
         (leb-true 4 v both.0, leb-true v 11 both.1)
-    to false q e = let z : ◌≡◌ {A = ℕ} 9 0 = sym (rw (q, array_tag_fault)) ∙ e in absurd (omega arith)
+    to false q e = absurd (let z : Some reason.NoArrayTag ≡ None = sym (rw (q, array_tag_fault)) ∙ e in cc)
 
-meant_exactly : (pool : List ℕ) (n : ℕ) (meaning : Meaning) (at : CodeOffset) (found : Read) (v : ℕ) (next : CodeOffset) → (meant pool n meaning at found ≡ read.Value v next) ↔ Means pool n meaning found v next
+meant_exactly : (pool : List ℕ) (n : ℕ) (meaning : Meaning) (at : CodeOffset) (found : Read) (v : ℕ) (next : CodeOffset) → (meant pool n meaning at found ≡ Ok (v, next)) ↔ Means pool n meaning found v next
 unfolding signed_read
 meant_exactly pool n Meaning.unsigned at found v next = (
   λ e. record { number = v; reads = e; value = refl; keeps = tt; named = tt },
-  λ m. m.reads ∙ ap (λ (x : ℕ). read.Value x next) (sym m.value),
+  λ m. m.reads ∙ ap (λ (x : ℕ). Ok (x, next)) (sym m.value),
 )
-meant_exactly pool n Meaning.signed at (read.Refused k p) v next = (λ e. absurd (clash k v p next e), λ m. absurd (clash k m.number p next m.reads))
-meant_exactly pool n Meaning.signed at (read.Value w m) v next = (
-  λ e. record { number = w; reads = ap (read.Value w) (let same : m ≡ next = cc in same); value = cc; keeps = tt; named = tt },
-  λ h. ap (signed_read n) h.reads ∙ ap (λ (x : ℕ). read.Value x next) (sym h.value),
+meant_exactly pool n Meaning.signed at (Err r) v next = (λ e. absurd (clash e), λ m. absurd (clash m.reads))
+meant_exactly pool n Meaning.signed at (Ok f) v next = (
+  λ e. record { number = f.0; reads = ap (λ (end : CodeOffset). Ok (f.0, end)) (same_end e); value = sym (same_first e); keeps = tt; named = tt },
+  λ h. ap (signed_read n) h.reads ∙ ap (λ (x : ℕ). Ok (x, next)) (sym h.value),
 )
 meant_exactly pool n (Meaning.index kinds) at found v next =
     let exactly = unless_exactly (index_fault pool kinds) at found v next in (
       λ e. record { number = v; reads = (exactly.0 e).0; value = refl; keeps = tt; named = (index_fault_lem pool kinds v).0 (exactly.0 e).1 },
-      λ m. exactly.1 (m.reads ∙ ap (λ (x : ℕ). read.Value x next) (sym m.value), (index_fault_lem pool kinds v).1 m.named),
+      λ m. exactly.1 (m.reads ∙ ap (λ (x : ℕ). Ok (x, next)) (sym m.value), (index_fault_lem pool kinds v).1 m.named),
     )
 meant_exactly pool n Meaning.zero at found v next =
     let exactly = unless_exactly zero_fault at found v next in (
       λ e. record { number = v; reads = (exactly.0 e).0; value = refl; keeps = (zero_fault_lem v).0 (exactly.0 e).1; named = tt },
-      λ m. exactly.1 (m.reads ∙ ap (λ (x : ℕ). read.Value x next) (sym m.value), (zero_fault_lem v).1 (m.value ∙ m.keeps)),
+      λ m. exactly.1 (m.reads ∙ ap (λ (x : ℕ). Ok (x, next)) (sym m.value), (zero_fault_lem v).1 (m.value ∙ m.keeps)),
     )
 meant_exactly pool n Meaning.array_tag at found v next =
     let exactly = unless_exactly array_tag_fault at found v next in (
       λ e. record { number = v; reads = (exactly.0 e).0; value = refl; keeps = (tag_fault v).0 (exactly.0 e).1; named = tt },
-      λ m. exactly.1 (m.reads ∙ ap (λ (x : ℕ). read.Value x next) (sym m.value), (tag_fault v).1 (rw m.value m.keeps)),
+      λ m. exactly.1 (m.reads ∙ ap (λ (x : ℕ). Ok (x, next)) (sym m.value), (tag_fault v).1 (rw m.value m.keeps)),
     )
 
 pub nowhere : (at : CodeOffset) → at ≡ after 0 at
@@ -133,12 +127,12 @@ nowhere at = ap (λ (i : ℕ). record { 0 = i }) (let same : at.0 ≡ at.0 + 0 =
 pub operand_exactly : OperandExactly
 operand_exactly code pool (Operand.implied k) at v next h = (
   λ e.
-      let same : next ≡ at = cc in
-      record { bytes = []; drawn = (cc, refl); named = tt; stand = record { within = omega arith; there = refl }; place = same ∙ nowhere at },
+      let same : next ≡ at = sym (same_end e) in
+      record { bytes = []; drawn = (sym (same_first e), refl); named = tt; stand = record { within = omega arith; there = refl }; place = same ∙ nowhere at },
   λ s. implied s,
 )
   where
-    implied : Stands code pool (Operand.implied k) at v next → read.Value k at ≡ read.Value v next
+    implied : Stands code pool (Operand.implied k) at v next → ◌≡◌ {A = Read} (Ok (k, at)) (Ok (v, next))
     implied s =
         let none : s.bytes ≡ [] = s.drawn.1 in
         let same : next ≡ at = s.place ∙ ap (λ (b : List ℕ). after (length b) at) none ∙ sym (nowhere at) in
@@ -157,7 +151,7 @@ operand_exactly code pool (Operand.bytes n meaning) at v next h = (λ e. to ((me
           place = f.place ∙ ap (λ (k : ℕ). after k at) (sym all);
         }
 
-    from : Stands code pool (Operand.bytes n meaning) at v next → operand_at code pool (Operand.bytes n meaning) at ≡ read.Value v next
+    from : Stands code pool (Operand.bytes n meaning) at v next → operand_at code pool (Operand.bytes n meaning) at ≡ Ok (v, next)
     from s =
         let all : length s.bytes ≡ n = s.drawn.0 in
         let there : bytes_at n code at.0 ≡ s.bytes = ap (λ (k : ℕ). bytes_at k code at.0) (sym all) ∙ s.stand.there in
@@ -171,13 +165,13 @@ single [] e = absurd (omega arith)
 single (b ∷ []) e = ap (λ (x : ℕ). x ∷ []) (let same : b ≡ b * 256 ^ 0 + 0 = omega arith in same)
 single (b ∷ c ∷ s) e = absurd (omega arith)
 
-pub byte_there : (code : List ℕ) (at : CodeOffset) (byte : ℕ) (next : CodeOffset) → read_of 1 code at ≡ read.Value byte next → Stand code at (byte ∷ []) × (next ≡ after 1 at)
+pub byte_there : (code : List ℕ) (at : CodeOffset) (byte : ℕ) (next : CodeOffset) → read_of 1 code at ≡ Ok (byte, next) → Stand code at (byte ∷ []) × (next ≡ after 1 at)
 byte_there code at byte next e =
     let f = finds 1 code at byte next e in
     let all : length (bytes_at 1 code at.0) ≡ 1 = length-take-le 1 (drop at.0 code) (rw length-drop (let w = f.within in omega arith)) in
     (record { within = f.within; there = single (bytes_at 1 code at.0) all ∙ ap (λ (x : ℕ). x ∷ []) (sym f.number) }, f.place)
 
-pub byte_read : (code : List ℕ) (at : CodeOffset) (byte : ℕ) → Stand code at (byte ∷ []) → read_of 1 code at ≡ read.Value byte (after 1 at)
+pub byte_read : (code : List ℕ) (at : CodeOffset) (byte : ℕ) → Stand code at (byte ∷ []) → read_of 1 code at ≡ Ok (byte, after 1 at)
 byte_read code at byte s =
     let number : byte ∷ [] ≡ big_endian (byte ∷ []) ∷ [] = single (byte ∷ []) refl in
     let same : byte ≡ big_endian (bytes_at 1 code at.0) = head-eq_of_cons-eq number ∙ ap big_endian (sym s.there) in

@@ -1,16 +1,12 @@
--- The ways in which each check ends, as the code needs them.
-use Prim.Native.Nat.{ℕ, zero, suc, ◌%◌, ◌+◌, ◌-◌, ◌/◌, ◌^◌, ◌≤◌, ◌<◌}
+-- Sign extension as the code finds it.
+use Prim.Native.Nat.{ℕ, zero, suc, ◌%◌, ◌+◌, ◌-◌, ◌*◌, ◌/◌, ◌^◌, ◌≤◌, ◌<◌}
 use mathlib.Core.Bool.{Bool, true, false}
-use mathlib.Core.Path.{◌≡◌, refl, sym, ap, ◌∙◌}
+use mathlib.Core.Path.{◌≡◌, refl}
 use native.Mathlib.Nat.{mod-eq_of_lt}
 use native.Mathlib.Omega.{arith}
 use borrow.Author.Tests.{lt-ltb, le-ltb}
 use lib.Dec.{ltb}
-use Rattle.read.specs.declared.CodeOffset.{CodeOffset}
-use Rattle.read.specs.declared.Read.{Read}
-use Rattle.read.specs.declared.Read.TheVariants as read
 use Rattle.operands.specs.Signed.{extended}
-use Rattle.operands.specs.Checks.{signed_read, unless_fault}
 use Rattle.operands.specs.Theorems.{WordKept}
 
 module _ (n v : ℕ) where
@@ -22,6 +18,22 @@ module _ (n v : ℕ) where
   unfolding extended
   lifted h = rw (le-ltb _ _ h, extended)
 
+-- the range of n bytes, as the code finds it
+range : (n : ℕ) → n ≤ 4 → (1 * 2 ^ (8 * n)) % 2 ^ 64 ≡ 256 ^ n
+range zero h = refl
+range (suc zero) h = refl
+range (suc (suc zero)) h = refl
+range (suc (suc (suc zero))) h = refl
+range (suc (suc (suc (suc zero)))) h = refl
+range (suc (suc (suc (suc (suc n))))) h = absurd (omega arith)
+
+module _ (n v : ℕ) (h : n ≤ 4) where
+  pub low_part : v % ((1 * 2 ^ (8 * n)) % 2 ^ 64) < (1 * 2 ^ (8 * n)) % 2 ^ 64 / 2 → v % ((1 * 2 ^ (8 * n)) % 2 ^ 64) ≡ extended n v
+  low_part = rw (range n h) (stays n v)
+
+  pub high_part : (1 * 2 ^ (8 * n)) % 2 ^ 64 / 2 ≤ v % ((1 * 2 ^ (8 * n)) % 2 ^ 64) → v % ((1 * 2 ^ (8 * n)) % 2 ^ 64) + (0x1_0000_0000 - (1 * 2 ^ (8 * n)) % 2 ^ 64) ≡ extended n v
+  high_part = rw (range n h) (lifted n v)
+
 -- a word is a signed number of four bytes already
 pub word_kept : WordKept
 unfolding extended
@@ -32,29 +44,3 @@ word_kept v h = go (ltb (v % 256 ^ 4) (256 ^ 4 / 2)) refl
     go false e =
         let all : v % 256 ^ 4 ≡ v = mod-eq_of_lt h in
         rw (e, extended) (omega arith)
-
--- a read that found a value, and what the check makes of it
-module _ {found : Read} {next : CodeOffset} where
-  pub signed_found : (n : ℕ) {v w : ℕ} → read.Value v next ≡ found → w ≡ extended n v → read.Value w next ≡ signed_read n found
-  unfolding signed_read
-  signed_found n {v} e h = ap (λ (x : ℕ). read.Value x next) h ∙ ap (signed_read n) e
-
-  module _ (fault : ℕ → ℕ) (at : CodeOffset) {v : ℕ} (e : read.Value v next ≡ found) where
-    pub no_fault : fault v ≡ 0 → read.Value v next ≡ unless_fault fault at found
-    unfolding unless_fault
-    no_fault h = sym (rw h) ∙ ap (unless_fault fault at) e
-
-    pub at_fault : {k : ℕ} → fault v ≡ k → (k ≡ 0 → ⊥) → read.Refused k at ≡ unless_fault fault at found
-    unfolding unless_fault
-    at_fault {k = zero} h n = absurd (n refl)
-    at_fault {k = suc k} h n = sym (rw h) ∙ ap (unless_fault fault at) e
-
--- a refusal passes through
-module _ {found : Read} {k : ℕ} {place : CodeOffset} (e : read.Refused k place ≡ found) where
-  pub signed_passed : (n : ℕ) → read.Refused k place ≡ signed_read n found
-  unfolding signed_read
-  signed_passed n = ap (signed_read n) e
-
-  pub passed : (fault : ℕ → ℕ) (at : CodeOffset) → read.Refused k place ≡ unless_fault fault at found
-  unfolding unless_fault
-  passed fault at = ap (unless_fault fault at) e

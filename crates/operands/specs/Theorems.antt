@@ -1,7 +1,6 @@
 -- The reading of operands and their pictures agree. The proofs are in proofs/Exactly.antt and proofs/Signed.antt.
-use Rattle.std.specs.Prelude.{ℕ, ◌^◌, ◌≤◌, ◌<◌, List, ◌↔◌, ◌⊎◌, ◌≡◌, length}
+use Rattle.std.specs.Prelude.{ℕ, ◌^◌, ◌≤◌, ◌<◌, List, ◌↔◌, ◌⊎◌, ◌≡◌, length, Ok}
 use Rattle.read.specs.declared.CodeOffset.{CodeOffset}
-use Rattle.read.specs.declared.Read.TheVariants as read
 use Rattle.opcodes.specs.Operands.{Operand}
 use Rattle.operands.specs.Signed.{signed_in, signed_of, extended}
 use Rattle.operands.specs.Checks.{operand_at}
@@ -11,7 +10,7 @@ use Rattle.operands.specs.Pictures.{Stands}
 abbrev pub OperandExactly : Type 0
 OperandExactly =
     (code pool : List ℕ) (o : Operand) (at : CodeOffset) (v : ℕ) (next : CodeOffset) → at.0 ≤ length code
-    → (operand_at code pool o at ≡ read.Value v next) ↔ Stands code pool o at v next
+    → (operand_at code pool o at ≡ Ok (v, next)) ↔ Stands code pool o at v next
 
 -- Sign extension keeps the number, in one byte and in two: proved as `sign_kept`
 abbrev pub SignKept : Type 0

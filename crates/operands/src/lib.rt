@@ -1,113 +1,70 @@
 // What the bytes of an operand mean: each check goes from a read to a read, and a refusal passes through.
 #![tactic(auto)]
 
-ghost use Rattle.std.specs.Prelude.{◌≡◌};
+ghost use Rattle.std.specs.Prelude.{◌≡◌, ◌<◌, ◌≤◌};
 ghost use Rattle.operands.specs.Signed.{extended};
-ghost use Rattle.operands.specs.Checks.{signed_read, index_fault, index_read, zero_read, array_tag_read};
+ghost use Rattle.operands.specs.Checks.{signed_read, index_read, zero_read, array_tag_read};
 
-use pool::{Entry, Kinds};
+use pool::Kinds;
 use read::{CodeOffset, Read};
+use refusals::Reason;
 
-// Document 01's refusals of an operand. An index has the pool's.
-pub const NOT_ZERO: u32 = 8;
-
-pub const NO_ARRAY_TAG: u32 = 9;
-
-// The low byte, or the low two, as a signed number in 32 bits.
-fn extended_1(value: u32) -> u32
-    ensures { result ≡ extended 1 value }
+// The low N bytes as a signed number in 32 bits. Four are a word as it stands.
+#[tactic(auto, using(crate::proofs::Laws::low_part, crate::proofs::Laws::high_part))]
+fn extended<const N: usize>(value: u32) -> u32
+    requires { (0 < N) × (N ≤ 4) }
+    ensures { result ≡ extended N value }
 {
-    let low = value % 0x100;
-    if low < 0x80 { low } else { low + 0xffff_ff00 }
-}
-
-fn extended_2(value: u32) -> u32
-    ensures { result ≡ extended 2 value }
-{
-    let low = value % 0x1_0000;
-    if low < 0x8000 { low } else { low + 0xffff_0000 }
-}
-
-// A signed number of one byte, of two, or of four, which is a word as it stands.
-pub fn signed_1(found: Read) -> Read
-    ensures { result ≡ signed_read 1 found }
-{
-    match found {
-        Read::Value(value, next) => Read::Value(extended_1(value), next),
-        Read::Refused(number, place) => Read::Refused(number, place),
+    let range = 1_u64 << (8 * N);
+    let low = u64::from(value) % range;
+    if low < range / 2 {
+        return low as u32;
     }
+    (low + (0x1_0000_0000 - range)) as u32
 }
 
-pub fn signed_2(found: Read) -> Read
-    ensures { result ≡ signed_read 2 found }
+// A signed number of N bytes.
+#[tactic(auto, unfolding(crate::specs::Checks::signed_read))]
+pub fn signed_read<const N: usize>(found: Read) -> Read
+    requires { (0 < N) × (N ≤ 4) }
+    ensures { result ≡ signed_read N found }
 {
-    match found {
-        Read::Value(value, next) => Read::Value(extended_2(value), next),
-        Read::Refused(number, place) => Read::Refused(number, place),
-    }
-}
-
-pub fn signed_4(found: Read) -> Read
-    ensures { result ≡ signed_read 4 found }
-{
-    match found {
-        Read::Value(value, next) => Read::Value(value, next),
-        Read::Refused(number, place) => Read::Refused(number, place),
-    }
-}
-
-// The refusal of an index, or 0.
-fn index_fault(pool: &[u8], kinds: Kinds, index: u32) -> u32
-    ensures { result ≡ index_fault pool.now kinds index }
-{
-    match pool::entry_of_kind(pool, kinds, index) {
-        Entry::Found(_) => 0,
-        Entry::Refused(number) => number,
-    }
+    let (value, next) = found?;
+    Ok((extended::<N>(value), next))
 }
 
 // An index whose bytes stand at an offset, and whose entry is of one of the kinds.
+#[tactic(auto, unfolding(crate::specs::Checks::unless_fault))]
 pub fn index_read(pool: &[u8], kinds: Kinds, at: CodeOffset, found: Read) -> Read
     ensures { result ≡ index_read pool.now kinds at found }
 {
-    match found {
-        Read::Value(index, next) => {
-            let fault = index_fault(pool, kinds, index);
-            if fault == 0 {
-                return Read::Value(index, next);
-            }
-            Read::Refused(fault, at)
-        }
-        Read::Refused(number, place) => Read::Refused(number, place),
+    let (index, next) = found?;
+    match pool::entry_of_kind(pool, kinds, index) {
+        Ok(_) => Ok((index, next)),
+        Err(reason) => Err(reason.at(at)),
     }
 }
 
 // Bytes at an offset that must be zero.
+#[tactic(auto, unfolding(crate::specs::Checks::unless_fault))]
 pub fn zero_read(at: CodeOffset, found: Read) -> Read
     ensures { result ≡ zero_read at found }
 {
-    match found {
-        Read::Value(value, next) => {
-            if value == 0 {
-                return Read::Value(value, next);
-            }
-            Read::Refused(NOT_ZERO, at)
-        }
-        Read::Refused(number, place) => Read::Refused(number, place),
+    let (value, next) = found?;
+    if value != 0 {
+        return Err(Reason::NotZero.at(at));
     }
+    Ok((value, next))
 }
 
 // The tag, at an offset, of a primitive array's elements.
+#[tactic(auto, unfolding(crate::specs::Checks::unless_fault))]
 pub fn array_tag_read(at: CodeOffset, found: Read) -> Read
     ensures { result ≡ array_tag_read at found }
 {
-    match found {
-        Read::Value(tag, next) => {
-            if (4 <= tag) & (tag <= 11) {
-                return Read::Value(tag, next);
-            }
-            Read::Refused(NO_ARRAY_TAG, at)
-        }
-        Read::Refused(number, place) => Read::Refused(number, place),
+    let (tag, next) = found?;
+    if !matches!(tag, 4..=11) {
+        return Err(Reason::NoArrayTag.at(at));
     }
+    Ok((tag, next))
 }

@@ -1,4 +1,4 @@
-pub mod Puts
+pub mod Wrote
 pub mod Texts
 pub mod Numbers
 pub mod Value

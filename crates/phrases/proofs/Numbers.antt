@@ -8,11 +8,9 @@ use native.Mathlib.Nat.{add-zero, add-suc, pow-suc, div-lt_iff_lt-mul}
 use native.Mathlib.Omega.{arith}
 use borrow.Author.Tests.{lt-ltb, le-ltb, ltb-true, ltb-false}
 use lib.Dec.{ltb}
-use lib.ListN.{length, set, length-append}
+use lib.ListN.{length, length-append}
 use Rattle.laws.specs.Bytes.{byte}
-use Rattle.phrases.specs.Puts.{Puts}
-use Rattle.phrases.specs.Numbers.{digit, digits_within, decimal, signed, blanks, pad_left}
-use Rattle.phrases.proofs.Puts.{puts_then, puts_byte, puts_as}
+use Rattle.phrases.specs.Numbers.{digit, digits_within, decimal, signed}
 
 pub one_or_more : (n : ℕ) → (n < 10) ⊎ (10 ≤ n)
 one_or_more n = go (ltb n 10) refl
@@ -70,16 +68,8 @@ decimal_short (suc k) n h = ⊎_elim (λ l. omega (arith, length_digit n l)) (λ
 pub number_short : (n : ℕ) → n < 2 ^ 64 → length (decimal n) ≤ 20
 number_short n h = decimal_short 19 n (omega arith)
 
--- a number's digits written: one, or the last after those of a tenth
-pub puts_digit : (old : List ℕ) (at n : ℕ) → n < 10 → Puts 20 old at (decimal n) (set old at (digit n)) (at + 1)
-puts_digit old at n h = puts_as (sym (decimal_digit n h)) (omega arith) (puts_byte old at (digit n))
-
-pub puts_more :
-    (old new : List ℕ) (at last n : ℕ) → 10 ≤ n → n < 2 ^ 64 → Puts 20 old at (decimal (n / 10)) new last
-    → Puts 20 old at (decimal n) (set new last (digit (n % 10))) (last + 1)
-puts_more old new at last n h small tenth =
-    let all = puts_as {n = 21} (sym (decimal_more n h)) (omega arith) (puts_then tenth (puts_byte new last (digit (n % 10)))) in
-    record { ends = all.ends; writes = all.writes; short = number_short n small }
+pub tenth_short : (n : ℕ) → 10 ≤ n → n < 2 ^ 64 → length (decimal (n / 10)) < 20
+tenth_short n h small = omega (arith, length_more n h, number_short n small)
 
 -- a word of two's complement by its sign
 pub signed_plain : (word : ℕ) → word < 2 ^ 31 → signed word ≡ decimal word
@@ -89,10 +79,3 @@ signed_plain word h = rw (lt-ltb _ _ h, signed)
 pub signed_minus : (word : ℕ) → 2 ^ 31 ≤ word → signed word ≡ byte "-" ∷ decimal (2 ^ 32 - word)
 unfolding signed
 signed_minus word h = rw (le-ltb _ _ h, signed)
-
-pub puts_right :
-    (width : ℕ) {k count at start r : ℕ} {old new last text : List ℕ} → count ≡ width - length text
-    → Puts count old at (blanks count) new start → Puts k new start text last r → Puts (width + k) old at (pad_left width text) last r
-unfolding pad_left
-puts_right width {k = k} {count = count} {text = text} e front back =
-    puts_as (ap (λ (n : ℕ). blanks n ++ text) e) (omega (arith, e)) (puts_then front back)

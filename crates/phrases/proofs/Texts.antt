@@ -1,75 +1,63 @@
 -- A table read text by text.
-use Prim.Native.Nat.{ℕ, zero, suc, ◌+◌, ◌-◌, ◌≤◌, ◌<◌}
-use mathlib.Core.Bool.{Bool, true, false, So, not, and-eq-true_iff}
+use Prim.Native.Nat.{ℕ, zero, suc, ◌≤◌}
+use mathlib.Core.Bool.{Bool, true, false, So, not, cond, and-eq-true_iff}
 use mathlib.Core.List.{List, [], ◌∷◌, ◌++◌}
-use mathlib.Core.Path.{◌≡◌, refl, sym, ap, ◌∙◌}
-use native.Mathlib.Numerals.{sub-one}
+use mathlib.Core.Path.{◌≡◌, refl, ap, ◌∙◌}
 use native.Mathlib.Omega.{arith}
-use borrow.Author.Tests.{ne_eqb, not-true, leb-true}
+use borrow.Author.Tests.{not-true, leb-true}
 use lib.Dec.{leb}
-use lib.ListN.{length, get_or, take, drop}
+use lib.ListN.{length, get_or}
 use Rattle.laws.specs.Bytes.{byte, every}
-use Rattle.laws.proofs.Lists.{here, done}
-use Rattle.phrases.specs.Puts.{Puts}
+use Rattle.std.specs.Prelude.{Option, Some, None}
+use Rattle.std.specs.List.{slice_get, slice_split, onto_first}
+use Rattle.std.specs.Option.{option_map, unwrap_or}
+use Rattle.std.proofs.lemmas.Option.{unwrap_or-slice_get}
+use denote.Ref.{Bor}
+use Rattle.phrases.specs.declared.Line.{Line}
+use Rattle.phrases.specs.Wrote.{Wrote}
 use Rattle.phrases.specs.Texts.{is_bar, table, has_no_bar, before_bar, after_bar, item}
-use Rattle.phrases.proofs.Puts.{puts_as}
+use Rattle.phrases.proofs.Wrote.{wrote_as}
 
 pub item_none : (n : ℕ) → item n [] ≡ []
 unfolding item before_bar after_bar
 item_none zero = refl
 item_none (suc n) = item_none n
 
-pub item_first : (s : List ℕ) → before_bar s ≡ item 0 s
-unfolding item
-item_first s = refl
-
--- one byte of the table, a bar or another
-module _ (texts : List ℕ) (i : ℕ) (h : i < length texts) where
-  module _ (bar : get_or texts i 0 ≡ byte "|") where
-    pub item_bar : (n : ℕ) → 0 < n → item n (drop i texts) ≡ item (n - 1) (drop (i + 1) texts)
-    unfolding item after_bar
-    item_bar zero l = absurd (omega arith)
-    item_bar (suc n) l = here (item (suc n)) texts i h ∙ rw (bar, item, after_bar, sub-one)
-
-    pub ends_at_bar : before_bar (drop i texts) ≡ []
-    unfolding before_bar
-    ends_at_bar = here before_bar texts i h ∙ rw (bar, before_bar)
-
-  module _ (other : get_or texts i 0 ≡ byte "|" → ⊥) where
-    pub item_other : (n : ℕ) → 0 < n → item n (drop i texts) ≡ item n (drop (i + 1) texts)
-    unfolding item after_bar
-    item_other zero l = absurd (omega arith)
-    item_other (suc n) l = here (item (suc n)) texts i h ∙ rw (item, ne_eqb _ _ other, after_bar)
-
-    pub goes_on : before_bar (drop i texts) ≡ get_or texts i 0 ∷ before_bar (drop (i + 1) texts)
-    unfolding before_bar
-    goes_on = here before_bar texts i h ∙ rw (ne_eqb _ _ other, before_bar)
-
--- nothing is left at the end
-pub item_end : (texts : List ℕ) (i n : ℕ) → length texts ≤ i → before_bar (drop i texts) ≡ item n (drop i texts)
+-- the parts between the bars, one byte more in front of them
+first_part : (s : List ℕ) → get_or (slice_split is_bar s) 0 [] ≡ before_bar s
 unfolding before_bar
-item_end texts i n h = done before_bar texts i h ∙ sym (item_none n) ∙ sym (done (item n) texts i h)
-
-pub ends_at_end : (texts : List ℕ) (i : ℕ) → length texts ≤ i → before_bar (drop i texts) ≡ []
-unfolding before_bar
-ends_at_end texts i h = done before_bar texts i h
-
-pub taken : (s : List ℕ) → take (length (before_bar s)) s ≡ before_bar s
-unfolding before_bar
-taken [] = refl
-taken (b ∷ s) = go (is_bar b) (taken s)
+first_part [] = refl
+first_part (b ∷ s) = go (is_bar b) (slice_split is_bar s) (first_part s)
   where
-    go : (t : Bool) → take (length (before_bar s)) s ≡ before_bar s → take (length {A = ℕ} (elim t [ true ↦ [] | false ↦ b ∷ before_bar s ])) (b ∷ s) ≡ elim t [ true ↦ [] | false ↦ b ∷ before_bar s ]
-    go true e = refl
-    go false e = ap (λ (l : List ℕ). b ∷ l) e
+    go : (t : Bool) (parts : List (List ℕ)) → get_or parts 0 [] ≡ before_bar s → get_or (cond t ([] ∷ parts) (onto_first b parts)) 0 [] ≡ elim t [ true ↦ [] | false ↦ b ∷ before_bar s ]
+    go true parts e = refl
+    go false [] e = ap (λ (l : List ℕ). b ∷ l) e
+    go false (part ∷ parts) e = ap (λ (l : List ℕ). b ∷ l) e
 
--- the part of a table from a text's start to its end
-pub part_is_item :
-    (texts : List ℕ) (n start end : ℕ) → before_bar (drop start texts) ≡ item n texts → end ≡ start + length (before_bar (drop start texts))
-    → take (end - start) (drop start texts) ≡ item n texts
-part_is_item texts n start end e l =
-    let all : end - start ≡ length (before_bar (drop start texts)) = omega arith in
-    ap (λ (k : ℕ). take k (drop start texts)) all ∙ taken (drop start texts) ∙ e
+later_part : (s : List ℕ) (n : ℕ) → get_or (slice_split is_bar s) (suc n) [] ≡ get_or (slice_split is_bar (after_bar s)) n []
+unfolding after_bar
+later_part [] zero = refl
+later_part [] (suc n) = refl
+later_part (b ∷ s) n = go (is_bar b) (slice_split is_bar s) (later_part s n) refl
+  where
+    go :
+        (t : Bool) (parts : List (List ℕ)) → get_or parts (suc n) [] ≡ get_or (slice_split is_bar (after_bar s)) n [] → parts ≡ slice_split is_bar s
+        → get_or (cond t ([] ∷ parts) (onto_first b parts)) (suc n) [] ≡ get_or (slice_split is_bar (elim t [ true ↦ s | false ↦ after_bar s ])) n []
+    go true parts e all = ap (λ (l : List (List ℕ)). get_or l n []) all
+    go false [] e all = e
+    go false (part ∷ parts) e all = e
+
+part_item : (n : ℕ) (s : List ℕ) → get_or (slice_split is_bar s) n [] ≡ item n s
+unfolding item
+part_item zero s = first_part s
+part_item (suc n) s = later_part s n ∙ part_item n (after_bar s)
+
+-- the part with a number, or nothing
+pub part_or_nothing :
+    (n : ℕ) (s : List ℕ) (found : Option (Bor (List ℕ))) (nothing : Bor (List ℕ)) → nothing.now ≡ [] → option_map (λ x. x.now) found ≡ slice_get (slice_split is_bar s) n
+    → (unwrap_or found nothing).now ≡ item n s
+part_or_nothing n s None nothing h e = h ∙ ap (λ (o : Option (List ℕ)). unwrap_or o []) e ∙ unwrap_or-slice_get (slice_split is_bar s) n [] ∙ part_item n s
+part_or_nothing n s (Some x) nothing h e = ap (λ (o : Option (List ℕ)). unwrap_or o []) e ∙ unwrap_or-slice_get (slice_split is_bar s) n [] ∙ part_item n s
 
 -- a text without a bar, the bar after it, and the rest
 module _ (rest : List ℕ) where
@@ -114,5 +102,5 @@ module _ (texts : List (List ℕ)) (most : ℕ) (bars : So (every has_no_bar tex
   pub item_short : length (item n bytes) ≤ most
   item_short = omega (arith, ap length item_is, text_short texts most n short)
 
-  pub puts_item : {at r : ℕ} {old new : List ℕ} → Puts (length (item n bytes)) old at (item n bytes) new r → Puts most old at (get_or texts n []) new r
-  puts_item h = puts_as item_is item_short h
+  pub wrote_item : {old new : Line} → Wrote (length (item n bytes)) old (item n bytes) new → Wrote most old (get_or texts n []) new
+  wrote_item h = wrote_as item_is item_short h

@@ -1,97 +1,20 @@
-// The pieces of a line: texts of a table, numbers and blanks. Each is written into a lent output from an offset on, and
-// the answer is the offset after it, so that the next piece starts there.
+// A line in a lent output, and the pieces that are written into it one after the other: texts, texts of a table, numbers
+// and blanks.
 #![tactic(auto)]
 
-ghost use Rattle.std.specs.Prelude.{◌≡◌, ◌+◌, ◌-◌, ◌≤◌, length, drop};
-ghost use Rattle.phrases.specs.Puts.{Puts};
-ghost use Rattle.phrases.specs.Texts.{before_bar, item};
+ghost use Rattle.std.specs.Prelude.{◌≡◌, ◌+◌, ◌∷◌, [], length};
+ghost use Rattle.phrases.specs.Wrote.{HasRoom, Wrote};
+ghost use Rattle.phrases.specs.Texts.{item};
 ghost use Rattle.phrases.specs.Numbers.{decimal, signed, blanks, pad_left};
 
-// What ends each text of a table.
-const BAR: u8 = b'|';
-
-// The words of two's complement from here on are negative, and so many words there are.
-const HALF: usize = 0x8000_0000;
-
-const WHOLE: usize = 0x1_0000_0000;
-
-// Where the text with the number n starts.
-fn start_of(texts: &[u8], n: usize) -> usize
-    ensures within { result ≤ length texts.now }
-    ensures starts { before_bar (drop result texts.now) ≡ item n texts.now }
+// The text with the number n in a table, where each is ended by a bar, and nothing past its end.
+fn item_of(texts: &[u8], n: usize) -> &[u8]
+    ensures { result.now ≡ item n texts.now }
 {
-    let mut left = n;
-    let mut i = 0;
-    while i < texts.len() {
-        if left == 0 {
-            return i;
-        }
-        if texts[i] == BAR {
-            left -= 1;
-            i += 1;
-            continue;
-        }
-        i += 1;
-    }
-    i
+    texts.split(|byte| *byte == b'|').nth(n).unwrap_or(&[])
 }
 
-// Where the text that starts at an offset ends.
-fn end_of(texts: &[u8], start: usize) -> usize
-    requires { start ≤ length texts.now }
-    ensures within { result ≤ length texts.now }
-    ensures ends { result ≡ start + length (before_bar (drop start texts.now)) }
-{
-    let mut i = start;
-    while i < texts.len() {
-        if texts[i] == BAR {
-            return i;
-        }
-        i += 1;
-    }
-    i
-}
-
-pub fn put_text(text: &[u8], out: &mut [u8], at: usize) -> usize
-    requires { at + length text.now ≤ length out.old }
-    ensures { Puts (length text.now) out.old at text.now out.new result }
-{
-    output::put(out, at, text);
-    at + text.len()
-}
-
-// The text with the number n in a table.
-pub fn put_item(texts: &[u8], n: usize, out: &mut [u8], at: usize) -> usize
-    requires { at + length (item n texts.now) ≤ length out.old }
-    ensures { Puts (length (item n texts.now)) out.old at (item n texts.now) out.new result }
-{
-    let start = start_of(texts, n);
-    let end = end_of(texts, start);
-    put_text(&texts[start..end], out, at)
-}
-
-pub fn put_blanks(count: usize, out: &mut [u8], at: usize) -> usize
-    requires { at + count ≤ length out.old }
-    ensures { Puts count out.old at (blanks count) out.new result }
-{
-    output::put_run(out, at, count, b' ');
-    at + count
-}
-
-// A number in decimal digits.
-pub fn put_decimal(n: usize, out: &mut [u8], at: usize) -> usize
-    requires { at + 20 ≤ length out.old }
-    ensures { Puts 20 out.old at (decimal n) out.new result }
-{
-    if n < 10 {
-        out[at] = b'0' + n as u8;
-        return at + 1;
-    }
-    let last = put_decimal(n / 10, out, at);
-    out[last] = b'0' + (n % 10) as u8;
-    last + 1
-}
-
+#[tactic(auto, using(crate::proofs::Numbers::length_digit, crate::proofs::Numbers::length_more, crate::proofs::Numbers::number_short))]
 fn decimal_length(n: usize) -> usize
     ensures { result ≡ length (decimal n) }
 {
@@ -101,52 +24,101 @@ fn decimal_length(n: usize) -> usize
     decimal_length(n / 10) + 1
 }
 
-// A word of two's complement.
-pub fn put_signed(word: u32, out: &mut [u8], at: usize) -> usize
-    requires { at + 21 ≤ length out.old }
-    ensures { Puts 21 out.old at (signed word) out.new result }
-{
-    let number = word as usize;
-    if number < HALF {
-        return put_decimal(number, out, at);
-    }
-    let digits = put_text(b"-", out, at);
-    put_decimal(WHOLE - number, out, digits)
-}
-
+#[tactic(auto, using(crate::proofs::Numbers::signed_plain, crate::proofs::Numbers::signed_minus, crate::proofs::Numbers::number_short))]
 fn signed_length(word: u32) -> usize
     ensures { result ≡ length (signed word) }
 {
-    let number = word as usize;
-    if number < HALF {
-        return decimal_length(number);
+    let value = word.cast_signed();
+    let digits = decimal_length(value.unsigned_abs() as usize);
+    if value < 0 { digits + 1 } else { digits }
+}
+
+// A line at the front of a lent output, and how many of its bytes are written.
+#[derive(Drop)]
+pub struct Line<'a> {
+    pub out: &'a mut [u8],
+    pub length: usize,
+}
+
+impl Line<'_> {
+    #[tactic(auto, unfolding(crate::specs::Wrote::with_bytes))]
+    pub fn text(&mut self, text: &[u8])
+        requires { HasRoom (length text.now) self.old }
+        ensures { Wrote (length text.now) self.old text.now self.new }
+    {
+        output::put(self.out, self.length, text);
+        self.length += text.len();
     }
-    decimal_length(WHOLE - number) + 1
-}
 
-// How many blanks fill a column beside a text.
-pub fn missing(width: usize, length: usize) -> usize
-    ensures { result ≡ width - length }
-{
-    if width < length {
-        return 0;
+    #[tactic(auto, unfolding(crate::specs::Wrote::with_bytes))]
+    pub fn byte(&mut self, byte: u8)
+        requires { HasRoom 1 self.old }
+        ensures { Wrote 1 self.old (byte ∷ []) self.new }
+    {
+        self.out[self.length] = byte;
+        self.length += 1;
     }
-    width - length
-}
 
-// A number, and a word of two's complement, at the right of a column.
-pub fn put_decimal_right(width: usize, n: usize, out: &mut [u8], at: usize) -> usize
-    requires { at + (width + 20) ≤ length out.old }
-    ensures { Puts (width + 20) out.old at (pad_left width (decimal n)) out.new result }
-{
-    let start = put_blanks(missing(width, decimal_length(n)), out, at);
-    put_decimal(n, out, start)
-}
+    // The text with the number n in a table.
+    pub fn item(&mut self, texts: &[u8], n: usize)
+        requires { HasRoom (length (item n texts.now)) self.old }
+        ensures { Wrote (length (item n texts.now)) self.old (item n texts.now) self.new }
+    {
+        self.text(item_of(texts, n));
+    }
 
-pub fn put_signed_right(width: usize, word: u32, out: &mut [u8], at: usize) -> usize
-    requires { at + (width + 21) ≤ length out.old }
-    ensures { Puts (width + 21) out.old at (pad_left width (signed word)) out.new result }
-{
-    let start = put_blanks(missing(width, signed_length(word)), out, at);
-    put_signed(word, out, start)
+    #[tactic(auto, unfolding(crate::specs::Wrote::with_bytes))]
+    pub fn blanks(&mut self, count: usize)
+        requires { HasRoom count self.old }
+        ensures { Wrote count self.old (blanks count) self.new }
+    {
+        output::put_run(self.out, self.length, count, b' ');
+        self.length += count;
+    }
+
+    // A number in decimal digits. A recursion, as `decimal` is on paper: a loop would write the digits from the last.
+    #[tactic(auto, using(crate::proofs::Wrote::pieces, crate::proofs::Numbers::decimal_digit, crate::proofs::Numbers::decimal_more, crate::proofs::Numbers::tenth_short))]
+    pub fn decimal(&mut self, n: usize)
+        requires { HasRoom 20 self.old }
+        ensures { Wrote 20 self.old (decimal n) self.new }
+    {
+        if n < 10 {
+            return self.byte(b'0' + n as u8);
+        }
+        self.decimal(n / 10);
+        self.byte(b'0' + (n % 10) as u8);
+    }
+
+    // A word of two's complement.
+    #[tactic(auto, using(crate::proofs::Wrote::pieces, crate::proofs::Numbers::signed_plain, crate::proofs::Numbers::signed_minus))]
+    pub fn signed(&mut self, word: u32)
+        requires { HasRoom 21 self.old }
+        ensures { Wrote 21 self.old (signed word) self.new }
+    {
+        let value = word.cast_signed();
+        if value < 0 {
+            self.byte(b'-');
+        }
+        self.decimal(value.unsigned_abs() as usize);
+    }
+
+    // A number, and a word of two's complement, at the right of a column. Two functions: one over both would take a trait with
+    // their bytes, their lengths and laws, and be longer.
+    #[tactic(auto, using(crate::proofs::Wrote::pieces), unfolding(crate::specs::Numbers::pad_left))]
+    pub fn decimal_right(&mut self, width: usize, n: usize)
+        requires { HasRoom (width + 20) self.old }
+        ensures { Wrote (width + 20) self.old (pad_left width (decimal n)) self.new }
+    {
+        self.blanks(width.saturating_sub(decimal_length(n)));
+        self.decimal(n);
+    }
+
+    #[tactic(auto, using(crate::proofs::Wrote::pieces), unfolding(crate::specs::Numbers::pad_left))]
+    pub fn signed_right(&mut self, width: usize, word: u32)
+        requires { HasRoom (width + 21) self.old }
+        ensures { Wrote (width + 21) self.old (pad_left width (signed word)) self.new }
+    {
+        self.blanks(width.saturating_sub(signed_length(word)));
+        self.signed(word);
+    }
 }

@@ -1,8 +1,9 @@
--- Which indexes are accepted, and with which number the others are refused. The proofs are in proofs/Exactly.antt.
-use Rattle.std.specs.Prelude.{ℕ, ◌≤◌, ◌<◌, List, ◌↔◌, ◌⊎◌, ◌≡◌, length, get_or}
+-- Which indexes are accepted, and for which reason the others are refused. The proofs are in proofs/Exactly.antt.
+use Rattle.std.specs.Prelude.{ℕ, ◌≤◌, ◌<◌, List, ◌↔◌, ◌⊎◌, ◌≡◌, length, get_or, Ok, Err}
 use Rattle.laws.specs.Bytes.{In}
 use Rattle.pool.specs.declared.Kinds.{Kinds}
-use Rattle.pool.specs.declared.Entry.TheVariants as entry
+use Rattle.refusals.specs.declared.Reason.{Reason}
+use Rattle.refusals.specs.declared.Reason.TheVariants as reason
 use Rattle.pool.specs.Tags.{tags_of}
 use Rattle.pool.specs.Entries.{HasKind, entry_of_kind}
 
@@ -10,22 +11,22 @@ use Rattle.pool.specs.Entries.{HasKind, entry_of_kind}
 abbrev pub EntryFoundExactly : Type 0
 EntryFoundExactly =
     (pool : List ℕ) (kinds : Kinds) (index tag : ℕ)
-    → (entry_of_kind pool kinds index ≡ entry.Found tag) ↔ (HasKind pool kinds index × (tag ≡ get_or pool index 0))
+    → (entry_of_kind pool kinds index ≡ Ok tag) ↔ (HasKind pool kinds index × (tag ≡ get_or pool index 0))
 
 -- proved as `no_entry_exactly`
 abbrev pub NoEntryExactly : Type 0
 NoEntryExactly =
     (pool : List ℕ) (kinds : Kinds) (index : ℕ)
-    → (entry_of_kind pool kinds index ≡ entry.Refused 6) ↔ ((index ≡ 0) ⊎ (length pool ≤ index))
+    → (entry_of_kind pool kinds index ≡ Err reason.NoEntry) ↔ ((index ≡ 0) ⊎ (length pool ≤ index))
 
 -- proved as `wrong_kind_exactly`
 abbrev pub WrongKindExactly : Type 0
 WrongKindExactly =
     (pool : List ℕ) (kinds : Kinds) (index : ℕ)
-    → (entry_of_kind pool kinds index ≡ entry.Refused 7)
+    → (entry_of_kind pool kinds index ≡ Err reason.WrongKind)
     ↔ ((0 < index) × (index < length pool) × (In (get_or pool index 0) (tags_of kinds) → ⊥))
 
 -- and there is no other refusal: proved as `two_refusals`
 abbrev pub TwoRefusals : Type 0
 TwoRefusals =
-    (pool : List ℕ) (kinds : Kinds) (index n : ℕ) → entry_of_kind pool kinds index ≡ entry.Refused n → (n ≡ 6) ⊎ (n ≡ 7)
+    (pool : List ℕ) (kinds : Kinds) (index : ℕ) (why : Reason) → entry_of_kind pool kinds index ≡ Err why → (why ≡ reason.NoEntry) ⊎ (why ≡ reason.WrongKind)

@@ -19,20 +19,16 @@ use Rattle.class_names.specs.Rules.{ClassName}
 use Rattle.class_names.proofs.Rules.{class_name_exactly}
 use Rattle.descriptors.specs.declared.FieldDescriptor.{FieldDescriptor}
 use Rattle.descriptors.specs.Texts.{max_dimensions, void, is_base_type}
-use Rattle.output.specs.declared.Output.{Output}
-use Rattle.output.specs.declared.Output.TheVariants as output
-use Rattle.output.specs.Output.{writing, output_after}
-use Rattle.output.proofs.Writing.{sets_append, sets_more, writing_fits, writing_too_short, refused_after, written_after}
-use Rattle.printing.specs.Printing.{name_of, type_bytes, part_bytes, part_length, has_name, has_no_name, is_type_part, is_field_part, is_void_part, is_return_part, room_refusal, printing}
+use Rattle.std.specs.Prelude.{Ok, Err, IsErrAnd}
+use Rattle.refusals.specs.declared.Reason.TheVariants as reason
+use Rattle.refusals.specs.declared.Refusal.{Refusal}
+use Rattle.refusals.specs.Numbers.{refused}
+use Rattle.output.specs.Output.{Output, writing, output_after}
+use Rattle.output.proofs.Writing.{sets_append, sets_more, writing_fits, writing_too_short, written_after, passed_on}
+use Rattle.printing.specs.Printing.{name_of, type_bytes, part_bytes, part_length, has_name, has_no_name, is_type_part, is_field_part, is_void_part, is_return_part, check_room, printing}
 
 -- The rules by their tests.
 module _ (text : List ℕ) (f : FieldDescriptor) where
-  pub name_outside : length text < f.start + f.length → false ≡ has_name text f
-  name_outside h = rw (lt-leb _ _ h)
-
-  pub name_inside : f.start + f.length ≤ length text → is_class_name (take (f.start + f.length - f.start) (drop f.start text)) ≡ has_name text f
-  name_inside h = rw (le-leb _ _ h) (ap (λ (n : ℕ). is_class_name (take n (drop f.start text))) (add-sub_cancel_left f.start f.length))
-
   pub object_rule : f.letter ≡ byte "L" → is_type_part text f ≡ has_name text f
   unfolding is_type_part
   object_rule e = rw (eq-eqb _ _ e, is_type_part)
@@ -41,17 +37,8 @@ module _ (text : List ℕ) (f : FieldDescriptor) where
   unfolding is_type_part
   base_rule n = rw (ne_eqb f.letter (byte "L") n, is_type_part)
 
-  pub many_dimensions : max_dimensions < f.dimensions → false ≡ is_field_part text f
-  many_dimensions h = rw (lt-leb _ _ h)
-
   pub few_dimensions : f.dimensions ≤ max_dimensions → is_type_part text f ≡ is_field_part text f
   few_dimensions h = rw (le-leb _ _ h)
-
-  pub void_return : is_void_part f ≡ true → true ≡ is_return_part text f
-  void_return e = rw e
-
-  pub value_return : is_void_part f ≡ false → is_field_part text f ≡ is_return_part text f
-  value_return e = rw e
 
   -- The bytes and their length.
   pub object_bytes : f.letter ≡ byte "L" → type_bytes text f ≡ byte "L" ∷ name_of text f ++ byte ";" ∷ []
@@ -63,9 +50,6 @@ module _ (text : List ℕ) (f : FieldDescriptor) where
   letter_bytes n = rw (ne_eqb f.letter (byte "L") n, type_bytes)
 
 module _ (f : FieldDescriptor) where
-  pub void_rule : (none : Bool) → none ≡ has_no_name f → (eqb f.letter (byte "V") && eqb f.dimensions 0 && none) ≡ is_void_part f
-  void_rule none e = ap (λ (b : Bool). eqb f.letter (byte "V") && eqb f.dimensions 0 && b) e
-
   pub object_length : f.letter ≡ byte "L" → part_length f ≡ f.dimensions + f.length + 2
   unfolding part_length
   object_length e = rw (eq-eqb _ _ e, part_length)
@@ -230,16 +214,16 @@ module _ (text : List ℕ) (f : FieldDescriptor) (out first : List ℕ) (at : �
 
 -- The answers of printing by their tests.
 module _ (text : List ℕ) (kept : Bool) (bytes : List ℕ) (room : ℕ) where
-  pub print_over : text_limit < length text → printing text kept bytes room ≡ output.Refused 21 0
+  pub print_over : text_limit < length text → printing text kept bytes room ≡ Err (refused reason.OverTheLimit 0)
   unfolding printing
   print_over h = rw (lt-leb _ _ h, printing)
 
   module _ (short : length text ≤ text_limit) where
-    pub print_broken : kept ≡ false → printing text kept bytes room ≡ output.Refused 34 0
+    pub print_broken : kept ≡ false → printing text kept bytes room ≡ Err (refused reason.BrokenParts 0)
     unfolding printing
     print_broken k = rw (le-leb _ _ short, k, printing)
 
-    pub print_long : kept ≡ true → text_limit < length bytes → printing text kept bytes room ≡ output.Refused 21 0
+    pub print_long : kept ≡ true → text_limit < length bytes → printing text kept bytes room ≡ Err (refused reason.OverTheLimit 0)
     unfolding printing
     print_long k h = rw (le-leb _ _ short, k, lt-leb _ _ h, printing)
 
@@ -247,18 +231,24 @@ module _ (text : List ℕ) (kept : Bool) (bytes : List ℕ) (room : ℕ) where
     unfolding printing
     print_within k h = rw (le-leb _ _ short, k, le-leb _ _ h, printing)
 
+-- the end of an entry whose text is over the limit
+pub text_over :
+    (text : List ℕ) (kept : Bool) (bytes out : List ℕ) (returned : Output) (r : Refusal ℕ) → IsErrAnd returned (λ (e : Refusal ℕ). e ≡ r) → (r ≡ refused reason.OverTheLimit 0) × (text_limit < length text)
+    → (returned ≡ printing text kept bytes (length out)) × (out ≡ output_after (printing text kept bytes (length out)) bytes out)
+text_over text kept bytes out returned r is over = passed_on _ bytes out returned r is (rw over.0 (print_over text kept bytes (length out) over.1))
+
 module _ (n room : ℕ) where
-  pub room_long : text_limit < n → room_refusal n room ≡ 21
-  unfolding room_refusal
-  room_long h = rw (lt-leb _ _ h, room_refusal)
+  pub room_long : text_limit < n → check_room n room ≡ Err (refused reason.OverTheLimit 0)
+  unfolding check_room
+  room_long h = rw (lt-leb _ _ h, check_room)
 
-  pub room_short : n ≤ text_limit → room < n → room_refusal n room ≡ 33
-  unfolding room_refusal
-  room_short h k = rw (le-leb _ _ h, lt-leb _ _ k, room_refusal)
+  pub room_short : n ≤ text_limit → room < n → check_room n room ≡ Err (refused reason.TooShort 0)
+  unfolding check_room
+  room_short h k = rw (le-leb _ _ h, lt-leb _ _ k, check_room)
 
-  pub room_enough : n ≤ text_limit → n ≤ room → room_refusal n room ≡ 0
-  unfolding room_refusal
-  room_enough h k = rw (le-leb _ _ h, le-leb _ _ k, room_refusal)
+  pub room_enough : n ≤ text_limit → n ≤ room → check_room n room ≡ Ok tt
+  unfolding check_room
+  room_enough h k = rw (le-leb _ _ h, le-leb _ _ k, check_room)
 
 -- a number that is the length of these bytes, if it is within the limit
 pub record Measures (n : ℕ) (bytes : List ℕ) : Type 0 where
@@ -268,66 +258,56 @@ pub record Measures (n : ℕ) (bytes : List ℕ) : Type 0 where
 pub measures : (n : ℕ) (bytes : List ℕ) → n ≡ length bytes → Measures n bytes
 measures n bytes e = record { within = λ h. e; over = λ h. omega arith }
 
--- The answer by the refusal that such a length gets.
-module _ (text : List ℕ) (kept : Bool) (bytes : List ℕ) (room : ℕ) (short : length text ≤ text_limit) (k : kept ≡ true) (n : ℕ) (m : Measures n bytes) (r : ℕ) (told : r ≡ room_refusal n room) where
-  pub print_refused : (r ≡ 0 → ⊥) → printing text kept bytes room ≡ output.Refused r 0
-  print_refused some = go (leb n text_limit) refl (leb n room) refl
+-- The answer by the check of such a length.
+module _ (text : List ℕ) (kept : Bool) (bytes : List ℕ) (room : ℕ) (short : length text ≤ text_limit) (k : kept ≡ true) (n : ℕ) (m : Measures n bytes) where
+  pub print_refused : (r : Refusal ℕ) → Err r ≡ check_room n room → printing text kept bytes room ≡ Err r
+  print_refused r told = go (leb n text_limit) refl (leb n room) refl
     where
-      go : (t : Bool) → leb n text_limit ≡ t → (u : Bool) → leb n room ≡ u → printing text kept bytes room ≡ output.Refused r 0
+      go : (t : Bool) → leb n text_limit ≡ t → (u : Bool) → leb n room ≡ u → printing text kept bytes room ≡ Err r
       go false e u q =
-          let over = leb-false _ _ e in
-          print_long text kept bytes room short k (m.over over) ∙ ap (λ (x : ℕ). output.Refused x 0) (sym (told ∙ room_long n room over))
+          let over : text_limit < n = leb-false _ _ e in
+          let same : r ≡ refused reason.OverTheLimit 0 = cc (told ∙ room_long n room over) in
+          print_long text kept bytes room short k (m.over over) ∙ ap Err (sym same)
       go true e false q =
-          let within = leb-true _ _ e in
+          let within : n ≤ text_limit = leb-true _ _ e in
           let more : room < length bytes = omega (arith, leb-false n room q, m.within within) in
-          print_within text kept bytes room short k (omega (arith, m.within within)) ∙ writing_too_short bytes room more
-          ∙ ap (λ (x : ℕ). output.Refused x 0) (sym (told ∙ room_short n room within (leb-false n room q)))
-      go true e true q = absurd (some (told ∙ room_enough n room (leb-true _ _ e) (leb-true _ _ q)))
+          let same : r ≡ refused reason.TooShort 0 = cc (told ∙ room_short n room within (leb-false n room q)) in
+          print_within text kept bytes room short k (omega (arith, m.within within)) ∙ writing_too_short bytes room more ∙ ap Err (sym same)
+      go true e true q = cc (told ∙ room_enough n room (leb-true _ _ e) (leb-true _ _ q))
 
-  pub print_fits : r ≡ 0 → (n ≡ length bytes) × (n ≤ room)
-  print_fits none = go (leb n text_limit) refl (leb n room) refl
+  pub print_fits : Ok tt ≡ check_room n room → (n ≡ length bytes) × (n ≤ room)
+  print_fits told = go (leb n text_limit) refl (leb n room) refl
     where
       go : (t : Bool) → leb n text_limit ≡ t → (u : Bool) → leb n room ≡ u → (n ≡ length bytes) × (n ≤ room)
-      go false e u q = absurd (omega (arith, none, told, room_long n room (leb-false _ _ e)))
-      go true e false q = absurd (omega (arith, none, told, room_short n room (leb-true n text_limit e) (leb-false n room q)))
+      go false e u q = absurd (cc (told ∙ room_long n room (leb-false _ _ e)))
+      go true e false q = absurd (cc (told ∙ room_short n room (leb-true n text_limit e) (leb-false n room q)))
       go true e true q = (m.within (leb-true _ _ e), leb-true _ _ q)
 
-  pub print_written : r ≡ 0 → printing text kept bytes room ≡ output.Written n
-  print_written none = go (leb n text_limit) refl
+  pub print_written : Ok tt ≡ check_room n room → printing text kept bytes room ≡ Ok n
+  print_written told = go (leb n text_limit) refl
     where
-      go : (t : Bool) → leb n text_limit ≡ t → printing text kept bytes room ≡ output.Written n
-      go false e = absurd (omega (arith, none, told, room_long n room (leb-false _ _ e)))
+      go : (t : Bool) → leb n text_limit ≡ t → printing text kept bytes room ≡ Ok n
+      go false e = absurd (cc (told ∙ room_long n room (leb-false _ _ e)))
       go true e =
-          let fits = print_fits none in
-          print_within text kept bytes room short k (omega (arith, fits.0, leb-true n text_limit e)) ∙ writing_fits bytes room (omega (arith, fits)) ∙ ap output.Written (sym fits.0)
+          let fits = print_fits told in
+          print_within text kept bytes room short k (omega (arith, fits.0, leb-true n text_limit e)) ∙ writing_fits bytes room (omega (arith, fits)) ∙ ap Ok (sym fits.0)
 
 -- The ends of the printing of a part.
-module _ (text : List ℕ) (f : FieldDescriptor) (kept : Bool) (out : List ℕ) (short : length text ≤ text_limit) (k : kept ≡ true) (rules : So kept → So (is_return_part text f))
-    (n : ℕ) (long : n ≡ part_length f) (r : ℕ) (told : r ≡ room_refusal n (length out)) where
+module _ (text : List ℕ) (f : FieldDescriptor) (kept : Bool) (out : List ℕ) (short : length text ≤ text_limit) (k : kept ≡ true) (rules : So kept → So (is_return_part text f)) (n : ℕ) (long : n ≡ part_length f) where
   measured : Measures n (part_bytes text f)
   measured = measures n (part_bytes text f) (long ∙ sym (part_length_lem text f ((return_part text f).0 (rules k))))
 
-  pub part_refused : (r ≡ 0 → ⊥) → (output.Refused r 0 ≡ printing text kept (part_bytes text f) (length out)) × (out ≡ output_after (printing text kept (part_bytes text f) (length out)) (part_bytes text f) out)
-  part_refused some = refused_after (printing text kept (part_bytes text f) (length out)) (part_bytes text f) out r 0 (print_refused text kept (part_bytes text f) (length out) short k n measured r told some)
+  abbrev answer : Output
+  answer = printing text kept (part_bytes text f) (length out)
 
-  pub part_fits : r ≡ 0 → So (is_return_part text f) × (0 + part_length f ≤ length out)
-  part_fits none = (rules k, omega (arith, long, (print_fits text kept (part_bytes text f) (length out) short k n measured r told none).1))
+  pub part_refused : (r : Refusal ℕ) → Err r ≡ check_room n (length out) → answer ≡ Err r
+  part_refused r told = print_refused text kept (part_bytes text f) (length out) short k n measured r told
 
-  pub part_printed : r ≡ 0 → (last : List ℕ) → last ≡ sets out 0 (part_bytes text f) → (output.Written n ≡ printing text kept (part_bytes text f) (length out)) × (last ≡ output_after (printing text kept (part_bytes text f) (length out)) (part_bytes text f) out)
-  part_printed none last e =
-      let fits = print_fits text kept (part_bytes text f) (length out) short k n measured r told none in
-      written_after (printing text kept (part_bytes text f) (length out)) (part_bytes text f) out last n (print_written text kept (part_bytes text f) (length out) short k n measured r told none) fits.0 fits.1 e
+  module _ (told : Ok tt ≡ check_room n (length out)) where
+    pub part_fits : So (is_return_part text f) × (0 + part_length f ≤ length out)
+    part_fits = (rules k, omega (arith, long, (print_fits text kept (part_bytes text f) (length out) short k n measured told).1))
 
--- the ends of an entry, whose flag is that of the rules
-pub field_is_return : (text : List ℕ) (f : FieldDescriptor) (kept : Bool) → kept ≡ is_field_part text f → So kept → So (is_return_part text f)
-field_is_return text f kept e k = (return_part text f).1 (inr ((field_part text f).0 (sym e ∙ k)))
-
-pub return_is_return : (text : List ℕ) (f : FieldDescriptor) (kept : Bool) → kept ≡ is_return_part text f → So kept → So (is_return_part text f)
-return_is_return text f kept e k = sym e ∙ k
-
-pub entry_part :
-    (text bytes out : List ℕ) {kept rules : Bool} → kept ≡ rules → (answer : Output) (last : List ℕ)
-    → (answer ≡ printing text kept bytes (length out)) × (last ≡ output_after (printing text kept bytes (length out)) bytes out)
-    → (answer ≡ printing text rules bytes (length out)) × (last ≡ output_after (printing text rules bytes (length out)) bytes out)
-entry_part text bytes out e answer last h =
-    (h.0 ∙ ap (λ (k : Bool). printing text k bytes (length out)) e, h.1 ∙ ap (λ (k : Bool). output_after (printing text k bytes (length out)) bytes out) e)
+    pub part_printed : (last : List ℕ) → last ≡ sets out 0 (part_bytes text f) → (Ok n ≡ answer) × (last ≡ output_after answer (part_bytes text f) out)
+    part_printed last e =
+        let fits = print_fits text kept (part_bytes text f) (length out) short k n measured told in
+        written_after answer (part_bytes text f) out last n (print_written text kept (part_bytes text f) (length out) short k n measured told) fits.0 fits.1 e

@@ -12,18 +12,17 @@ use borrow.Author.Tests.{leb-true, leb-false}
 use lib.Dec.{leb}
 use lib.ListN.{length, take, drop, replicate, length-append, length-drop}
 use lib.Seq.{take_at, drop-drop}
+use Rattle.std.specs.Prelude.{Ok, Err}
+use Rattle.refusals.specs.declared.Reason.TheVariants as reason
+use Rattle.refusals.specs.Numbers.{number_of, refused}
 use Rattle.laws.specs.Bytes.{byte, ascii, text_limit}
 use Rattle.class_names.specs.Rules.{ClassName}
 use Rattle.descriptors.specs.declared.FieldDescriptor.{FieldDescriptor}
-use Rattle.descriptors.specs.declared.Field.{Field}
-use Rattle.descriptors.specs.declared.Field.TheVariants as field
-use Rattle.descriptors.specs.Texts.{max_dimensions, base, object, void, is_base_type, field_text, return_text}
+use Rattle.descriptors.specs.Texts.{Field, max_dimensions, base, object, void, is_base_type, field_text, return_text}
 use Rattle.descriptors.specs.Grammar.{FieldType, dimensions, parts_at}
 use Rattle.descriptors.specs.Theorems.{DerivedField}
 use Rattle.descriptors.proofs.Entries.{field_text_exactly, return_text_exactly}
-use Rattle.output.specs.declared.Output.{Output}
-use Rattle.output.specs.declared.Output.TheVariants as output
-use Rattle.output.specs.Output.{writing, output_after}
+use Rattle.output.specs.Output.{Output, writing, output_after}
 use Rattle.output.proofs.Writing.{writing_fits, writing_too_short}
 use Rattle.printing.specs.Printing.{name_of, type_bytes, part_bytes, is_field_part, is_return_part, printing}
 use Rattle.printing.specs.Theorems.{HasName, Agree, PrintsBack, ReadsBack, KeptExactly, FieldPrintsBack, ReturnPrintsBack, FieldReadsBack, ReturnReadsBack, FieldKeptExactly, ReturnKeptExactly, Refused34Exactly}
@@ -92,13 +91,13 @@ derived_read s f used d =
     let k = derived_keeps s 0 0 d.tree [] (sym (append-nil s)) (omega (arith, d.few)) in
     subst (WasRead FieldPart s) (sym d.parts) (record { part = k.0; same = k.1; short = d.short })
 
-field_was_read : (s : List ℕ) (f : FieldDescriptor) (used : ℕ) → field_text s ≡ field.Parsed f used → WasRead FieldPart s f
+field_was_read : (s : List ℕ) (f : FieldDescriptor) (used : ℕ) → field_text s ≡ Ok (f, used) → WasRead FieldPart s f
 field_was_read s f used h = derived_read s f used ((field_text_exactly s f used).0 h)
 
 pub void_bytes : (text : List ℕ) → part_bytes text void ≡ ascii "V"
 void_bytes text = letter_bytes text void (λ e. omega arith)
 
-return_was_read : (s : List ℕ) (f : FieldDescriptor) (used : ℕ) → return_text s ≡ field.Parsed f used → WasRead ReturnPart s f
+return_was_read : (s : List ℕ) (f : FieldDescriptor) (used : ℕ) → return_text s ≡ Ok (f, used) → WasRead ReturnPart s f
 return_was_read s f used h =
     ⊎_elim
     (λ v. record { part = inl v.1; same = ap (part_bytes s) v.1 ∙ void_bytes s ∙ sym v.0; short = rw v.0 (omega arith) })
@@ -107,10 +106,10 @@ return_was_read s f used h =
 
 -- What keeps the rules is printed, where there is room.
 pub prints : (s : List ℕ) (kept : Bool) (bytes out : List ℕ) → So kept → bytes ≡ s → length s ≤ text_limit → length s ≤ length out
-    → (printing s kept bytes (length out) ≡ output.Written (length s)) × (output_after (printing s kept bytes (length out)) bytes out ≡ s ++ drop (length s) out)
+    → (printing s kept bytes (length out) ≡ Ok (length s)) × (output_after (printing s kept bytes (length out)) bytes out ≡ s ++ drop (length s) out)
 unfolding output_after
 prints s kept bytes out k same short room =
-    let answer : printing s kept bytes (length out) ≡ output.Written (length s) =
+    let answer : printing s kept bytes (length out) ≡ Ok (length s) =
     print_within s kept bytes (length out) short k (rw same short) ∙ ap (λ (b : List ℕ). writing b (length out)) same ∙ writing_fits s (length out) room in
     (answer, ap₂ (λ (a : Output) (b : List ℕ). output_after a b out) answer same)
 
@@ -197,22 +196,19 @@ pub record Printed (text : List ℕ) (kept : Bool) (bytes out : List ℕ) (n : �
   pub all : n ≡ length bytes
   pub front : take n (output_after (printing text kept bytes (length out)) bytes out) ≡ bytes
 
-no_output {ℓ} : {A : Type ℓ} {k p n : ℕ} → output.Refused k p ≡ output.Written n → A
-no_output h = absurd (let z : ◌≡◌ {A = ℕ} 0 1 = cc in omega arith)
-
-pub printed : (text : List ℕ) (kept : Bool) (bytes out : List ℕ) (n : ℕ) → printing text kept bytes (length out) ≡ output.Written n → Printed text kept bytes out n
+pub printed : (text : List ℕ) (kept : Bool) (bytes out : List ℕ) (n : ℕ) → printing text kept bytes (length out) ≡ Ok n → Printed text kept bytes out n
 unfolding output_after
 printed text kept bytes out n h = go (leb (length text) text_limit) refl kept refl (leb (length bytes) text_limit) refl (leb (length bytes) (length out)) refl
   where
     go :
         (t : Bool) → leb (length text) text_limit ≡ t → (k : Bool) → kept ≡ k → (u : Bool) → leb (length bytes) text_limit ≡ u → (v : Bool) → leb (length bytes) (length out) ≡ v
         → Printed text kept bytes out n
-    go false p k q u r v w = no_output (sym (print_over text kept bytes (length out) (leb-false _ _ p)) ∙ h)
-    go true p false q u r v w = no_output (sym (print_broken text kept bytes (length out) (leb-true _ _ p) q) ∙ h)
-    go true p true q false r v w = no_output (sym (print_long text kept bytes (length out) (leb-true _ _ p) q (leb-false _ _ r)) ∙ h)
-    go true p true q true r false w = no_output (sym (print_within text kept bytes (length out) (leb-true _ _ p) q (leb-true _ _ r) ∙ writing_too_short bytes (length out) (leb-false _ _ w)) ∙ h)
+    go false p k q u r v w = absurd (cc (sym (print_over text kept bytes (length out) (leb-false _ _ p)) ∙ h))
+    go true p false q u r v w = absurd (cc (sym (print_broken text kept bytes (length out) (leb-true _ _ p) q) ∙ h))
+    go true p true q false r v w = absurd (cc (sym (print_long text kept bytes (length out) (leb-true _ _ p) q (leb-false _ _ r)) ∙ h))
+    go true p true q true r false w = absurd (cc (sym (print_within text kept bytes (length out) (leb-true _ _ p) q (leb-true _ _ r) ∙ writing_too_short bytes (length out) (leb-false _ _ w)) ∙ h))
     go true p true q true r true w =
-        let is : output.Written (length bytes) ≡ output.Written n = sym (print_within text kept bytes (length out) (leb-true _ _ p) q (leb-true _ _ r) ∙ writing_fits bytes (length out) (leb-true _ _ w)) ∙ h in
+        let is : ◌≡◌ {A = Output} (Ok (length bytes)) (Ok n) = sym (print_within text kept bytes (length out) (leb-true _ _ p) q (leb-true _ _ r) ∙ writing_fits bytes (length out) (leb-true _ _ w)) ∙ h in
         let all : length bytes ≡ n = cc in
         record {
           keeps = q;
@@ -225,7 +221,7 @@ tree_derived : (text : List ℕ) (f : FieldDescriptor) (t : FieldTree text f) �
 tree_derived text f t short = record { short = rw t.same at short; tree = t.tree; few = t.few; parts = refl; all = refl }
 
 abbrev ReadTo : (List ℕ → Field) → List ℕ → FieldDescriptor → List ℕ → Type 0
-ReadTo reads text f bytes = (g : FieldDescriptor) × (reads bytes ≡ field.Parsed g (length bytes)) × Agree text f bytes g
+ReadTo reads text f bytes = (g : FieldDescriptor) × (reads bytes ≡ Ok (g, length bytes)) × Agree text f bytes g
 
 pub void_agrees : (text other : List ℕ) → Agree text void other void
 void_agrees text other = record { dimensions = refl; letter = refl; name = []; first = HasName.unnamed no_letter refl refl refl; second = HasName.unnamed no_letter refl refl refl }
@@ -293,7 +289,7 @@ module _ (text : List ℕ) (f : FieldDescriptor) (other : List ℕ) (g : FieldDe
 module _
     (kept : List ℕ → FieldDescriptor → Bool) (reads : List ℕ → Field) (Part : List ℕ → FieldDescriptor → Type 0)
     (rule : (text : List ℕ) (f : FieldDescriptor) → So (kept text f) ↔ Part text f)
-    (was_read : (s : List ℕ) (f : FieldDescriptor) (used : ℕ) → reads s ≡ field.Parsed f used → WasRead Part s f)
+    (was_read : (s : List ℕ) (f : FieldDescriptor) (used : ℕ) → reads s ≡ Ok (f, used) → WasRead Part s f)
     (is_read : (text : List ℕ) (f : FieldDescriptor) → length (part_bytes text f) ≤ text_limit → Part text f → ReadTo reads text f (part_bytes text f))
     (agree : (text : List ℕ) (f : FieldDescriptor) (s : List ℕ) (g : FieldDescriptor) → Agree text f s g → Part s g → Part text f)
   where
@@ -312,7 +308,7 @@ module _
     reads_back text out f n h =
         let p = printed text (kept text f) (part_bytes text f) out n h in
         let r = is_read text f p.short ((rule text f).0 p.keeps) in
-        (r.0, ap reads p.front ∙ r.1 ∙ ap (field.Parsed r.0) (sym p.all), rw p.front r.2)
+        (r.0, ap reads p.front ∙ r.1 ∙ ap (λ (n : ℕ). Ok (r.0, n)) (sym p.all), rw p.front r.2)
 
     kept_exactly : KeptExactly kept reads
     kept_exactly text f = (
@@ -342,12 +338,10 @@ field_kept_exactly = kept_exactly is_field_part field_text FieldPart field_part 
 pub return_kept_exactly : ReturnKeptExactly
 return_kept_exactly = kept_exactly is_return_part return_text ReturnPart return_part return_was_read return_reads agree_return
 
--- 34.
-other_refusal {ℓ} : {A : Type ℓ} {m n : ℕ} → output.Refused m 0 ≡ output.Refused n 0 → (m ≡ n → ⊥) → A
-other_refusal h apart = absurd (apart (cc))
-
-some_output {ℓ} : {A : Type ℓ} {n k p : ℕ} → output.Written n ≡ output.Refused k p → A
-some_output h = absurd (let z : ◌≡◌ {A = ℕ} 0 1 = cc in omega arith)
+-- 34. The number of an answer's refusal tells it from the others.
+abbrev number_in : Output → ℕ
+number_in (Ok n) = 0
+number_in (Err r) = number_of r.reason
 
 pub refused_34_exactly : Refused34Exactly
 refused_34_exactly text kept bytes room = (
@@ -356,10 +350,10 @@ refused_34_exactly text kept bytes room = (
 )
   where
     go :
-        printing text kept bytes room ≡ output.Refused 34 0 → (t : Bool) → leb (length text) text_limit ≡ t → (k : Bool) → kept ≡ k → (u : Bool) → leb (length bytes) text_limit ≡ u
+        printing text kept bytes room ≡ Err (refused reason.BrokenParts 0) → (t : Bool) → leb (length text) text_limit ≡ t → (k : Bool) → kept ≡ k → (u : Bool) → leb (length bytes) text_limit ≡ u
         → (v : Bool) → leb (length bytes) room ≡ v → (length text ≤ text_limit) × (kept ≡ false)
-    go h false p k q u r v w = other_refusal (sym (print_over text kept bytes room (leb-false _ _ p)) ∙ h) (λ e. omega arith)
+    go h false p k q u r v w = absurd (omega (arith, ap number_in (sym (print_over text kept bytes room (leb-false _ _ p)) ∙ h)))
     go h true p false q u r v w = (leb-true _ _ p, q)
-    go h true p true q false r v w = other_refusal (sym (print_long text kept bytes room (leb-true _ _ p) q (leb-false _ _ r)) ∙ h) (λ e. omega arith)
-    go h true p true q true r false w = other_refusal (sym (print_within text kept bytes room (leb-true _ _ p) q (leb-true _ _ r) ∙ writing_too_short bytes room (leb-false _ _ w)) ∙ h) (λ e. omega arith)
-    go h true p true q true r true w = some_output (sym (print_within text kept bytes room (leb-true _ _ p) q (leb-true _ _ r) ∙ writing_fits bytes room (leb-true _ _ w)) ∙ h)
+    go h true p true q false r v w = absurd (omega (arith, ap number_in (sym (print_long text kept bytes room (leb-true _ _ p) q (leb-false _ _ r)) ∙ h)))
+    go h true p true q true r false w = absurd (omega (arith, ap number_in (sym (print_within text kept bytes room (leb-true _ _ p) q (leb-true _ _ r) ∙ writing_too_short bytes room (leb-false _ _ w)) ∙ h)))
+    go h true p true q true r true w = absurd (omega (arith, ap number_in (sym (print_within text kept bytes room (leb-true _ _ p) q (leb-true _ _ r) ∙ writing_fits bytes room (leb-true _ _ w)) ∙ h)))

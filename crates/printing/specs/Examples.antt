@@ -1,10 +1,11 @@
 -- Worked printings: the parts, and the answer or the output. Proved in proofs/Examples.antt.
-use Rattle.std.specs.Prelude.{ℕ, List, [], ◌∷◌, ◌++◌, replicate}
+use Rattle.std.specs.Prelude.{ℕ, List, [], ◌∷◌, ◌++◌, replicate, Ok, Err}
 use Rattle.laws.specs.Bytes.{byte, ascii}
 use Rattle.laws.specs.Examples.{Computes}
 use Rattle.descriptors.specs.declared.FieldDescriptor.{FieldDescriptor}
 use Rattle.descriptors.specs.Texts.{base, object, void}
-use Rattle.output.specs.declared.Output.TheVariants as output
+use Rattle.refusals.specs.declared.Reason.TheVariants as reason
+use Rattle.refusals.specs.Numbers.{refused}
 use Rattle.printing.specs.Printing.{print_field, print_return, field_output, return_output}
 
 -- the text that the parts point into: two names and the ; between them
@@ -19,45 +20,45 @@ parts dimensions letter start length = record { dimensions = dimensions; letter 
 abbrev pub FieldsPrint : Type 0
 FieldsPrint =
     Computes (λ (e : FieldDescriptor × ℕ). print_field text e.0 e.1) (
-    ((base 0 (byte "I"), 1), output.Written 1)
-    ∷ ((base 2 (byte "Z"), 9), output.Written 3)
-    ∷ ((base 255 (byte "I"), 256), output.Written 256)
-    ∷ ((object 0 4 1, 9), output.Written 3)
+    ((base 0 (byte "I"), 1), Ok 1)
+    ∷ ((base 2 (byte "Z"), 9), Ok 3)
+    ∷ ((base 255 (byte "I"), 256), Ok 256)
+    ∷ ((object 0 4 1, 9), Ok 3)
     -- exactly full, and one byte short
-    ∷ ((object 2 0 3, 7), output.Written 7)
-    ∷ ((object 2 0 3, 6), output.Refused 33 0)
+    ∷ ((object 2 0 3, 7), Ok 7)
+    ∷ ((object 2 0 3, 6), Err (refused reason.TooShort 0))
     -- 256 dimensions
-    ∷ ((base 256 (byte "I"), 300), output.Refused 34 0)
+    ∷ ((base 256 (byte "I"), 300), Err (refused reason.BrokenParts 0))
     -- a letter not listed
-    ∷ ((base 0 (byte "X"), 9), output.Refused 34 0)
-    ∷ ((base 0 0, 9), output.Refused 34 0)
+    ∷ ((base 0 (byte "X"), 9), Err (refused reason.BrokenParts 0))
+    ∷ ((base 0 0, 9), Err (refused reason.BrokenParts 0))
     -- a start or a length without a class name
-    ∷ ((parts 0 (byte "I") 1 0, 9), output.Refused 34 0)
-    ∷ ((parts 0 (byte "I") 0 1, 9), output.Refused 34 0)
+    ∷ ((parts 0 (byte "I") 1 0, 9), Err (refused reason.BrokenParts 0))
+    ∷ ((parts 0 (byte "I") 0 1, 9), Err (refused reason.BrokenParts 0))
     -- a range outside the text
-    ∷ ((object 0 4 2, 9), output.Refused 34 0)
-    ∷ ((object 0 4294967295 1, 9), output.Refused 34 0)
+    ∷ ((object 0 4 2, 9), Err (refused reason.BrokenParts 0))
+    ∷ ((object 0 4294967295 1, 9), Err (refused reason.BrokenParts 0))
     -- a name with a ; , an empty one, and one whose last segment is empty
-    ∷ ((object 0 2 3, 9), output.Refused 34 0)
-    ∷ ((object 0 0 0, 9), output.Refused 34 0)
-    ∷ ((object 0 0 2, 9), output.Refused 34 0)
+    ∷ ((object 0 2 3, 9), Err (refused reason.BrokenParts 0))
+    ∷ ((object 0 0 0, 9), Err (refused reason.BrokenParts 0))
+    ∷ ((object 0 0 2, 9), Err (refused reason.BrokenParts 0))
     -- V as a field
-    ∷ ((void, 9), output.Refused 34 0)
+    ∷ ((void, 9), Err (refused reason.BrokenParts 0))
     -- 34 goes before 33
-    ∷ ((void, 0), output.Refused 34 0)
+    ∷ ((void, 0), Err (refused reason.BrokenParts 0))
     ∷ [])
 
 -- proved as `returns_print`
 abbrev pub ReturnsPrint : Type 0
 ReturnsPrint =
     Computes (λ (e : FieldDescriptor × ℕ). print_return text e.0 e.1) (
-    ((void, 1), output.Written 1)
-    ∷ ((void, 0), output.Refused 33 0)
-    ∷ ((base 0 (byte "J"), 1), output.Written 1)
-    ∷ ((object 1 0 3, 6), output.Written 6)
+    ((void, 1), Ok 1)
+    ∷ ((void, 0), Err (refused reason.TooShort 0))
+    ∷ ((base 0 (byte "J"), 1), Ok 1)
+    ∷ ((object 1 0 3, 6), Ok 6)
     -- V with dimensions, and with a name's range
-    ∷ ((base 1 (byte "V"), 9), output.Refused 34 0)
-    ∷ ((parts 0 (byte "V") 0 1, 9), output.Refused 34 0)
+    ∷ ((base 1 (byte "V"), 9), Err (refused reason.BrokenParts 0))
+    ∷ ((parts 0 (byte "V") 0 1, 9), Err (refused reason.BrokenParts 0))
     ∷ [])
 
 -- the output, each byte 7 before: what lies past the descriptor stays, and a refusal changes nothing. Proved as
@@ -86,8 +87,8 @@ ReturnOutputsCompute =
 abbrev pub LimitsCompute : Type 0
 LimitsCompute =
     Computes (λ (e : ℕ × FieldDescriptor). print_field (replicate e.0 (byte "a")) e.1 0) (
-    ((65536, base 0 (byte "I")), output.Refused 21 0)
-    ∷ ((65536, void), output.Refused 21 0)
-    ∷ ((65535, base 0 (byte "I")), output.Refused 33 0)
-    ∷ ((65535, object 0 0 65534), output.Refused 21 0)
+    ((65536, base 0 (byte "I")), Err (refused reason.OverTheLimit 0))
+    ∷ ((65536, void), Err (refused reason.OverTheLimit 0))
+    ∷ ((65535, base 0 (byte "I")), Err (refused reason.TooShort 0))
+    ∷ ((65535, object 0 0 65534), Err (refused reason.OverTheLimit 0))
     ∷ [])

@@ -1,13 +1,14 @@
 -- Printing, document 01, "Texts": parts, with the text that they point into, back to the bytes of a descriptor.
 -- specs/Theorems.antt says that reading and printing undo each other.
-use Rattle.std.specs.Prelude.{ℕ, ◌+◌, Bool, true, false, ◌&&◌, ◌||◌, List, [], ◌∷◌, ◌++◌, eqb, leb, length, take, drop, replicate}
+use Rattle.std.specs.Prelude.{ℕ, ◌+◌, Bool, true, false, ◌&&◌, ◌||◌, List, [], ◌∷◌, ◌++◌, eqb, leb, length, take, drop, replicate, Result, Ok, Err}
 use Rattle.laws.specs.Bytes.{byte, text_limit, within_limit}
 use Rattle.class_names.specs.Names.{is_class_name}
 use Rattle.descriptors.specs.declared.FieldDescriptor.{FieldDescriptor}
 use Rattle.descriptors.specs.Texts.{max_dimensions, is_base_type}
-use Rattle.output.specs.declared.Output.{Output}
-use Rattle.output.specs.declared.Output.TheVariants as output
-use Rattle.output.specs.Output.{writing, output_after}
+use Rattle.refusals.specs.declared.Reason.TheVariants as reason
+use Rattle.refusals.specs.declared.Refusal.{Refusal}
+use Rattle.refusals.specs.Numbers.{refused}
+use Rattle.output.specs.Output.{Output, writing, output_after}
 
 -- the bytes of the class name that parts point to
 abbrev pub name_of : List ℕ → FieldDescriptor → List ℕ
@@ -46,9 +47,13 @@ is_void_part f = eqb f.letter (byte "V") && eqb f.dimensions 0 && has_no_name f
 abbrev pub is_return_part : List ℕ → FieldDescriptor → Bool
 is_return_part text f = is_void_part f || is_field_part text f
 
--- the refusal of so many bytes for so much room, or 0
-unfoldable pub room_refusal : ℕ → ℕ → ℕ
-room_refusal n room = elim (leb n text_limit) [ true ↦ elim (leb n room) [ true ↦ 0 | false ↦ 33 ] | false ↦ 21 ]
+-- whether so many bytes are within the limit, else 21, and the room, else 33
+unfoldable pub check_room : ℕ → ℕ → Result Unit (Refusal ℕ)
+check_room n room =
+    elim (leb n text_limit) [
+      | true ↦ elim (leb n room) [ true ↦ Ok tt | false ↦ Err (refused reason.TooShort 0) ]
+      | false ↦ Err (refused reason.OverTheLimit 0)
+    ]
 
 -- The answer where the parts keep the rules or not, and these are their bytes. 21: the text is over the limit.
 -- 34: the parts break the rules. 21: what is to be printed is over the limit. 33: the output is too short
@@ -56,10 +61,10 @@ unfoldable pub printing : List ℕ → Bool → List ℕ → ℕ → Output
 printing text kept bytes room =
     elim (within_limit text) [
       | true ↦ elim kept [
-        | true ↦ elim (within_limit bytes) [ true ↦ writing bytes room | false ↦ output.Refused 21 0 ]
-        | false ↦ output.Refused 34 0
+        | true ↦ elim (within_limit bytes) [ true ↦ writing bytes room | false ↦ Err (refused reason.OverTheLimit 0) ]
+        | false ↦ Err (refused reason.BrokenParts 0)
       ]
-      | false ↦ output.Refused 21 0
+      | false ↦ Err (refused reason.OverTheLimit 0)
     ]
 
 -- The entries' answers, and the output afterwards

@@ -1,13 +1,12 @@
 -- Reading and printing undo each other, and what 34 is given for. The proofs are in proofs/Roundtrip.antt.
-use Rattle.std.specs.Prelude.{ℕ, ◌+◌, ◌≤◌, Bool, false, List, [], ◌++◌, ◌↔◌, ◌≡◌, length, take, drop}
+use Rattle.std.specs.Prelude.{ℕ, ◌+◌, ◌≤◌, Bool, false, List, [], ◌++◌, ◌↔◌, ◌≡◌, length, take, drop, Ok, Err}
+use Rattle.refusals.specs.declared.Reason.TheVariants as reason
+use Rattle.refusals.specs.Numbers.{refused}
 use Rattle.std.proofs.Math.Bool.{So}
 use Rattle.laws.specs.Bytes.{byte, text_limit}
 use Rattle.descriptors.specs.declared.FieldDescriptor.{FieldDescriptor}
-use Rattle.descriptors.specs.declared.Field.{Field}
-use Rattle.descriptors.specs.declared.Field.TheVariants as field
-use Rattle.descriptors.specs.Texts.{field_text, return_text}
-use Rattle.output.specs.declared.Output.{Output}
-use Rattle.output.specs.declared.Output.TheVariants as output
+use Rattle.descriptors.specs.Texts.{Field, field_text, return_text}
+use Rattle.output.specs.Output.{Output}
 use Rattle.printing.specs.Printing.{name_of, part_bytes, is_field_part, is_return_part, printing, print_field, print_return, field_output, return_output}
 
 -- the class name of parts that point into a text
@@ -28,8 +27,8 @@ pub record Agree (text : List ℕ) (f : FieldDescriptor) (other : List ℕ) (g :
 -- (a) Given room, a whole descriptor that is accepted prints back to its own bytes, and the output's bytes past them stay
 abbrev pub PrintsBack : (List ℕ → Field) → (List ℕ → FieldDescriptor → ℕ → Output) → (List ℕ → FieldDescriptor → List ℕ → List ℕ) → Type 0
 PrintsBack reads prints outputs =
-    (s out : List ℕ) (f : FieldDescriptor) (used : ℕ) → reads s ≡ field.Parsed f used → length s ≤ length out
-    → (prints s f (length out) ≡ output.Written (length s)) × (outputs s f out ≡ s ++ drop (length s) out)
+    (s out : List ℕ) (f : FieldDescriptor) (used : ℕ) → reads s ≡ Ok (f, used) → length s ≤ length out
+    → (prints s f (length out) ≡ Ok (length s)) × (outputs s f out ≡ s ++ drop (length s) out)
 
 -- proved as `field_prints_back`, `return_prints_back`
 abbrev pub FieldPrintsBack : Type 0
@@ -41,8 +40,8 @@ ReturnPrintsBack = PrintsBack return_text print_return return_output
 -- (b) What is printed reads back, whole, to parts that agree
 abbrev pub ReadsBack : (List ℕ → Field) → (List ℕ → FieldDescriptor → ℕ → Output) → (List ℕ → FieldDescriptor → List ℕ → List ℕ) → Type 0
 ReadsBack reads prints outputs =
-    (text out : List ℕ) (f : FieldDescriptor) (n : ℕ) → prints text f (length out) ≡ output.Written n
-    → (g : FieldDescriptor) × (reads (take n (outputs text f out)) ≡ field.Parsed g n) × Agree text f (take n (outputs text f out)) g
+    (text out : List ℕ) (f : FieldDescriptor) (n : ℕ) → prints text f (length out) ≡ Ok n
+    → (g : FieldDescriptor) × (reads (take n (outputs text f out)) ≡ Ok (g, n)) × Agree text f (take n (outputs text f out)) g
 
 -- proved as `field_reads_back`, `return_reads_back`
 abbrev pub FieldReadsBack : Type 0
@@ -57,7 +56,7 @@ abbrev pub KeptExactly : (List ℕ → FieldDescriptor → Bool) → (List ℕ �
 KeptExactly kept reads =
     (text : List ℕ) (f : FieldDescriptor)
     → (So (kept text f) × (length (part_bytes text f) ≤ text_limit))
-    ↔ ((s : List ℕ) × (g : FieldDescriptor) × (used : ℕ) × (reads s ≡ field.Parsed g used) × Agree text f s g)
+    ↔ ((s : List ℕ) × (g : FieldDescriptor) × (used : ℕ) × (reads s ≡ Ok (g, used)) × Agree text f s g)
 
 -- proved as `field_kept_exactly`, `return_kept_exactly`
 abbrev pub FieldKeptExactly : Type 0
@@ -70,4 +69,4 @@ ReturnKeptExactly = KeptExactly is_return_part return_text
 abbrev pub Refused34Exactly : Type 0
 Refused34Exactly =
     (text : List ℕ) (kept : Bool) (bytes : List ℕ) (room : ℕ)
-    → (printing text kept bytes room ≡ output.Refused 34 0) ↔ ((length text ≤ text_limit) × (kept ≡ false))
+    → (printing text kept bytes room ≡ Err (refused reason.BrokenParts 0)) ↔ ((length text ≤ text_limit) × (kept ≡ false))

@@ -1,9 +1,13 @@
 -- A contract without a `requires` asks nothing.
+use native.Mathlib.Omega.{arith}
+use borrow.Author.Rules.{rules}
 use Rattle.promises.specs.Asked.{EntriesAskNothing}
 
 pub entries_ask_nothing : EntriesAskNothing
 entries_ask_nothing =
     record {
+      reason_number = λ κs a. tt;
+      text = λ κs a. tt;
       clear = λ κs a. tt;
       left = λ κs a. tt;
       read_u1 = λ κs a. tt;
@@ -19,6 +23,9 @@ entries_ask_nothing =
       base = λ κs a. tt;
       void = λ κs a. tt;
       object = λ κs a. tt;
+      is_base_type = λ κs a. tt;
+      field_at = λ κs a. tt;
+      return_at = λ κs a. tt;
       field_prefix = λ κs a. tt;
       field_whole = λ κs a. tt;
       return_prefix = λ κs a. tt;
@@ -35,7 +42,7 @@ entries_ask_nothing =
       is_field_part = λ κs a. tt;
       is_return_part = λ κs a. tt;
       part_length = λ κs a. tt;
-      room_refusal = λ κs a. tt;
+      check_room = λ κs a. tt;
       print_field = λ κs a. tt;
       print_return = λ κs a. tt;
       print_method = λ κs a. tt;
@@ -43,23 +50,26 @@ entries_ask_nothing =
       pool_entry_at = λ κs a. tt;
       allows_tag = λ κs a. tt;
       entry_of_kind = λ κs a. tt;
-      formats = λ κs a. tt;
+      format_of = λ κs a. tt;
       wide_form_of = λ κs a. tt;
       kind_of = λ κs a. tt;
-      signed_1 = λ κs a. tt;
-      signed_2 = λ κs a. tt;
-      signed_4 = λ κs a. tt;
+      signed_1 = λ t fits κs a. (λ l m. search rules, (omega arith, omega arith));
+      signed_2 = λ t fits κs a. (λ l m. search rules, (omega arith, omega arith));
+      signed_4 = λ t fits κs a. (λ l m. search rules, (omega arith, omega arith));
       index_read = λ κs a. tt;
       zero_read = λ κs a. tt;
       array_tag_read = λ κs a. tt;
       with_first = λ κs a. tt;
-      increment_1 = λ κs a. tt;
+      increment_1 = λ t fits κs a. (λ l m. search rules, (omega arith, omega arith));
+      increment_2 = λ t fits κs a. (λ l m. search rules, (omega arith, omega arith));
       indexed_step = λ κs a. tt;
       wide_step = λ κs a. tt;
       entry_count = λ κs a. tt;
       instruction_at = λ κs a. tt;
-      to_usize = λ κs a. tt;
       find = λ κs a. tt;
+      sorted_records = λ κs a. tt;
+      index_of = λ κs a. tt;
+      is_offset = λ κs a. tt;
       stored_entries = λ κs a. tt;
       entries_of = λ κs a. tt;
       decode = λ κs a. tt;
@@ -85,7 +95,6 @@ entries_ask_nothing =
       nk_is_array_descriptor = λ κs a. tt;
       nk_is_return_descriptor = λ κs a. tt;
       nk_is_method_descriptor = λ κs a. tt;
-      missing = λ κs a. tt;
       has_operands = λ κs a. tt;
       instruction_line = λ κs a. tt;
       entry_line = λ κs a. tt;

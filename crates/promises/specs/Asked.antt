@@ -1,7 +1,12 @@
 -- Any arguments may be given: no entry has a `requires`. Each line is over what the checker makes of the contract in src/, so
 -- a `requires` that some arguments break breaks it. Proved in proofs/Asked.antt as `entries_ask_nothing`. The published
 -- functions that are not listed serve other crates and ask something of these: docs/PROMISES.md says who meets it.
+use denote.RattleType.{RattleType}
+use mir.Syntax.{w64}
+use mir.Val.{Fits}
 use Rattle.laws.specs.Pinned.{AsksNothing}
+use Rattle.refusals
+use Rattle.texts
 use Rattle.store
 use Rattle.read
 use Rattle.names
@@ -17,18 +22,20 @@ use Rattle.operands
 use Rattle.ordinary
 use Rattle.switches
 use Rattle.instruction
-use Rattle.records
 use Rattle.lookup
 use Rattle.jumps
 use Rattle.filling
 use Rattle.bytecode
 use Rattle.station
-use Rattle.phrases
 use Rattle.wording
 use Rattle.listing
 use Rattle.bundle
 
-pub record EntriesAskNothing : Type 0 where
+pub record EntriesAskNothing : Type 1 where
+  -- refusals
+  pub reason_number : AsksNothing refusals.specs.contracts.Reason.number.ended refusals.proofs.Reason.number.Reads.Asked
+  -- texts
+  pub text : AsksNothing texts.specs.contracts.Text.new.ended texts.proofs.Text.new.Reads.Asked
   -- store
   pub clear : AsksNothing store.specs.contracts.clear.ended store.proofs.clear.Reads.Asked
   -- read
@@ -49,6 +56,9 @@ pub record EntriesAskNothing : Type 0 where
   pub base : AsksNothing descriptors.specs.contracts.FieldDescriptor.base.ended descriptors.proofs.FieldDescriptor.base.Reads.Asked
   pub void : AsksNothing descriptors.specs.contracts.FieldDescriptor.void.ended descriptors.proofs.FieldDescriptor.void.Reads.Asked
   pub object : AsksNothing descriptors.specs.contracts.FieldDescriptor.object.ended descriptors.proofs.FieldDescriptor.object.Reads.Asked
+  pub is_base_type : AsksNothing descriptors.specs.contracts.is_base_type.ended descriptors.proofs.is_base_type.Reads.Asked
+  pub field_at : AsksNothing descriptors.specs.contracts.field_at.ended descriptors.proofs.field_at.Reads.Asked
+  pub return_at : AsksNothing descriptors.specs.contracts.return_at.ended descriptors.proofs.return_at.Reads.Asked
   pub field_prefix : AsksNothing descriptors.specs.contracts.field_prefix.ended descriptors.proofs.field_prefix.Reads.Asked
   pub field_whole : AsksNothing descriptors.specs.contracts.field_whole.ended descriptors.proofs.field_whole.Reads.Asked
   pub return_prefix : AsksNothing descriptors.specs.contracts.return_prefix.ended descriptors.proofs.return_prefix.Reads.Asked
@@ -67,7 +77,7 @@ pub record EntriesAskNothing : Type 0 where
   pub is_field_part : AsksNothing printing.specs.contracts.is_field_part.ended printing.proofs.is_field_part.Reads.Asked
   pub is_return_part : AsksNothing printing.specs.contracts.is_return_part.ended printing.proofs.is_return_part.Reads.Asked
   pub part_length : AsksNothing printing.specs.contracts.part_length.ended printing.proofs.part_length.Reads.Asked
-  pub room_refusal : AsksNothing printing.specs.contracts.room_refusal.ended printing.proofs.room_refusal.Reads.Asked
+  pub check_room : AsksNothing printing.specs.contracts.check_room.ended printing.proofs.check_room.Reads.Asked
   pub print_field : AsksNothing printing.specs.contracts.print_field.ended printing.proofs.print_field.Reads.Asked
   pub print_return : AsksNothing printing.specs.contracts.print_return.ended printing.proofs.print_return.Reads.Asked
   -- method_printing
@@ -79,19 +89,30 @@ pub record EntriesAskNothing : Type 0 where
   pub allows_tag : AsksNothing pool.specs.contracts.allows_tag.ended pool.proofs.allows_tag.Reads.Asked
   pub entry_of_kind : AsksNothing pool.specs.contracts.entry_of_kind.ended pool.proofs.entry_of_kind.Reads.Asked
   -- opcodes
-  pub formats : AsksNothing opcodes.specs.contracts.formats.ended opcodes.proofs.formats.Reads.Asked
+  pub format_of : AsksNothing opcodes.specs.contracts.format_of.ended opcodes.proofs.format_of.Reads.Asked
   pub wide_form_of : AsksNothing opcodes.specs.contracts.wide_form_of.ended opcodes.proofs.wide_form_of.Reads.Asked
   pub kind_of : AsksNothing opcodes.specs.contracts.kind_of.ended opcodes.proofs.kind_of.Reads.Asked
   -- operands
-  pub signed_1 : AsksNothing operands.specs.contracts.signed_1.ended operands.proofs.signed_1.Reads.Asked
-  pub signed_2 : AsksNothing operands.specs.contracts.signed_2.ended operands.proofs.signed_2.Reads.Asked
-  pub signed_4 : AsksNothing operands.specs.contracts.signed_4.ended operands.proofs.signed_4.Reads.Asked
+  pub signed_1 :
+      (t : RattleType) (fits : Fits w64 1)
+      → AsksNothing (operands.specs.contracts.signed_read.ended t) (operands.proofs.signed_read.Reads.Asked 1 fits)
+  pub signed_2 :
+      (t : RattleType) (fits : Fits w64 2)
+      → AsksNothing (operands.specs.contracts.signed_read.ended t) (operands.proofs.signed_read.Reads.Asked 2 fits)
+  pub signed_4 :
+      (t : RattleType) (fits : Fits w64 4)
+      → AsksNothing (operands.specs.contracts.signed_read.ended t) (operands.proofs.signed_read.Reads.Asked 4 fits)
   pub index_read : AsksNothing operands.specs.contracts.index_read.ended operands.proofs.index_read.Reads.Asked
   pub zero_read : AsksNothing operands.specs.contracts.zero_read.ended operands.proofs.zero_read.Reads.Asked
   pub array_tag_read : AsksNothing operands.specs.contracts.array_tag_read.ended operands.proofs.array_tag_read.Reads.Asked
   -- ordinary
   pub with_first : AsksNothing ordinary.specs.contracts.with_first.ended ordinary.proofs.with_first.Reads.Asked
-  pub increment_1 : AsksNothing ordinary.specs.contracts.increment_1.ended ordinary.proofs.increment_1.Reads.Asked
+  pub increment_1 :
+      (t : RattleType) (fits : Fits w64 1)
+      → AsksNothing (ordinary.specs.contracts.increment.ended t) (ordinary.proofs.increment.Reads.Asked 1 fits)
+  pub increment_2 :
+      (t : RattleType) (fits : Fits w64 2)
+      → AsksNothing (ordinary.specs.contracts.increment.ended t) (ordinary.proofs.increment.Reads.Asked 2 fits)
   pub indexed_step : AsksNothing ordinary.specs.contracts.indexed_step.ended ordinary.proofs.indexed_step.Reads.Asked
   pub wide_step : AsksNothing ordinary.specs.contracts.wide_step.ended ordinary.proofs.wide_step.Reads.Asked
   -- switches
@@ -99,9 +120,11 @@ pub record EntriesAskNothing : Type 0 where
   -- instruction
   pub instruction_at : AsksNothing instruction.specs.contracts.instruction_at.ended instruction.proofs.instruction_at.Reads.Asked
   -- records
-  pub to_usize : AsksNothing records.specs.contracts.to_usize.ended records.proofs.to_usize.Reads.Asked
   -- lookup
   pub find : AsksNothing lookup.specs.contracts.find.ended lookup.proofs.find.Reads.Asked
+  pub sorted_records : AsksNothing lookup.specs.contracts.SortedRecords.new.ended lookup.proofs.SortedRecords.new.Reads.Asked
+  pub index_of : AsksNothing lookup.specs.contracts.SortedRecords.index_of.ended lookup.proofs.SortedRecords.index_of.Reads.Asked
+  pub is_offset : AsksNothing lookup.specs.contracts.SortedRecords.is_offset.ended lookup.proofs.SortedRecords.is_offset.Reads.Asked
   -- jumps
   pub stored_entries : AsksNothing jumps.specs.contracts.stored_entries.ended jumps.proofs.stored_entries.Reads.Asked
   -- filling
@@ -131,8 +154,6 @@ pub record EntriesAskNothing : Type 0 where
   pub nk_is_array_descriptor : AsksNothing station.specs.contracts.nk_is_array_descriptor.ended station.proofs.nk_is_array_descriptor.Reads.Asked
   pub nk_is_return_descriptor : AsksNothing station.specs.contracts.nk_is_return_descriptor.ended station.proofs.nk_is_return_descriptor.Reads.Asked
   pub nk_is_method_descriptor : AsksNothing station.specs.contracts.nk_is_method_descriptor.ended station.proofs.nk_is_method_descriptor.Reads.Asked
-  -- phrases
-  pub missing : AsksNothing phrases.specs.contracts.missing.ended phrases.proofs.missing.Reads.Asked
   -- wording
   pub has_operands : AsksNothing wording.specs.contracts.has_operands.ended wording.proofs.has_operands.Reads.Asked
   -- listing

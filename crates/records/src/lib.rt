@@ -17,7 +17,7 @@ pub const RECORD_WORDS: usize = 6;
 
 pub const ENTRY_WORDS: usize = 2;
 
-// The kinds of the two switches, whose records have entries.
+// The kinds of the two switches, whose records have entries. Numbers: a record holds its kind as a word, which C reads.
 pub const TABLE_SWITCH_KIND: u32 = 0xaa;
 
 pub const LOOKUP_SWITCH_KIND: u32 = 0xab;
@@ -38,18 +38,12 @@ pub struct SwitchEntry {
     pub jump: u32,
 }
 
-// A word as an offset, an index or a count of the machine's own width.
-pub fn to_usize(word: u32) -> usize
-    ensures { result ≡ word }
-{
-    word as usize
-}
-
 pub fn put_record(records: &mut [u32], index: RecordIndex, value: Record)
     requires { (index.0 + 1) * record_words ≤ length records.old }
     ensures { records.new ≡ sets records.old (index.0 * record_words) (words_of value) }
 {
     let at = index.0 * RECORD_WORDS;
+    // Word by word: `copy_from_slice` of an array was tried and takes twice the time here, and five times at an entry.
     records[at] = value.offset;
     records[at + 1] = value.kind;
     records[at + 2] = value.a;
@@ -62,14 +56,15 @@ pub fn record_at(records: &[u32], index: RecordIndex) -> Record
     requires { (index.0 + 1) * record_words ≤ length records.now }
     ensures { result ≡ record_at records.now index }
 {
-    let at = index.0 * RECORD_WORDS;
+    let (rows, _) = records.as_chunks::<RECORD_WORDS>();
+    let [offset, kind, a, b, c, d] = rows[index.0];
     Record {
-        offset: records[at],
-        kind: records[at + 1],
-        a: records[at + 2],
-        b: records[at + 3],
-        c: records[at + 4],
-        d: records[at + 5],
+        offset,
+        kind,
+        a,
+        b,
+        c,
+        d,
     }
 }
 
@@ -78,8 +73,7 @@ pub fn offset_at(records: &[u32], index: RecordIndex) -> CodeOffset
     requires { (index.0 + 1) * record_words ≤ length records.now }
     ensures { result ≡ offset_at records.now index }
 {
-    let at = index.0 * RECORD_WORDS;
-    CodeOffset(to_usize(records[at]))
+    CodeOffset(records[index.0 * RECORD_WORDS] as usize)
 }
 
 pub fn put_entry(entries: &mut [u32], index: RecordIndex, value: SwitchEntry)
@@ -95,9 +89,7 @@ pub fn entry_at(entries: &[u32], index: RecordIndex) -> SwitchEntry
     requires { (index.0 + 1) * entry_words ≤ length entries.now }
     ensures { result ≡ entry_at entries.now index }
 {
-    let at = index.0 * ENTRY_WORDS;
-    SwitchEntry {
-        key: entries[at],
-        jump: entries[at + 1],
-    }
+    let (rows, _) = entries.as_chunks::<ENTRY_WORDS>();
+    let [key, jump] = rows[index.0];
+    SwitchEntry { key, jump }
 }

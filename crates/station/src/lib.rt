@@ -12,15 +12,13 @@ ghost use Rattle.identifier.specs.Identifier.{identifying, identifier_output};
 ghost use Rattle.records.specs.Records.{record_room, entry_room};
 ghost use Rattle.bytecode.specs.Decoding.{decoding, records_after, entries_after};
 ghost use Rattle.lookup.specs.Lookup.{lookup_of};
-ghost use Rattle.station.specs.Station.{acceptance, refusal, decode_answer, lookup_answer, name_answer, output_answer, part_of, parts_of, no_parts, field_parts, array_parts, method_parts, HasFew};
+ghost use Rattle.station.specs.Station.{acceptance, refusal, decode_answer, lookup_answer, name_answer, output_answer, part_of, parts_of, no_parts, field_parts, array_parts, method_parts, refusal_at, refused_parts, HasFew};
 
-use bytecode::Decoded;
-use class_names::Checked;
-use descriptors::{Array, Field, FieldDescriptor};
-use lookup::Found;
+use descriptors::{Field, FieldDescriptor};
 use methods::Method;
 use output::Output;
 use read::CodeOffset;
+use refusals::Refusal;
 
 // Number 0 is acceptance, and `first` and `next` say what the entry found. Any other number is a refusal with its place and
 // its second number.
@@ -73,12 +71,23 @@ fn refused(number: u32, place: u64, second: u32) -> Answer
     }
 }
 
-fn written(answer: Output) -> Answer
-    ensures { result ≡ output_answer answer }
-{
-    match answer {
-        Output::Written(length) => accepted(length as u64, 0),
-        Output::Refused(number, place) => refused(number, place as u64, 0),
+// A refusal of a text, which has no second number.
+impl From<Refusal<usize>> for Answer {
+    ghost from_gives = { λ r answer. answer ≡ refusal_at r };
+
+    fn from(refusal: Refusal<usize>) -> Answer {
+        refused(refusal.reason.number(), refusal.place as u64, 0)
+    }
+}
+
+impl From<Output> for Answer {
+    ghost from_gives = { λ output answer. answer ≡ output_answer output };
+
+    fn from(output: Output) -> Answer {
+        match output {
+            Ok(length) => accepted(length as u64, 0),
+            Err(refusal) => refusal.into(),
+        }
     }
 }
 
@@ -112,23 +121,33 @@ fn no_parts(number: u32, place: u64) -> Parts
     }
 }
 
-fn field_parts(answer: Field) -> Parts
-    ensures { result ≡ field_parts answer }
-{
-    match answer {
-        Field::Parsed(part, used) => parts_of(part, 0, used as u64),
-        Field::Refused(number, place) => no_parts(number, place as u64),
+impl From<Refusal<usize>> for Parts {
+    ghost from_gives = { λ r parts. parts ≡ refused_parts r };
+
+    fn from(refusal: Refusal<usize>) -> Parts {
+        no_parts(refusal.reason.number(), refusal.place as u64)
     }
 }
 
-// The count of parameters fits 32 bits, since a text has fewer than its bytes.
+impl From<Field> for Parts {
+    ghost from_gives = { λ field parts. parts ≡ field_parts field };
+
+    fn from(field: Field) -> Parts {
+        match field {
+            Ok((part, used)) => parts_of(part, 0, used as u64),
+            Err(refusal) => refusal.into(),
+        }
+    }
+}
+
+// The count of parameters fits 32 bits, since a text has fewer than its bytes. No `From`, which may not ask that.
 fn method_parts(answer: Method) -> Parts
     requires { HasFew answer }
     ensures { result ≡ method_parts answer }
 {
     match answer {
-        Method::Parsed(parameters, part, used) => parts_of(part, parameters as u32, used as u64),
-        Method::Refused(number, place) => no_parts(number, place as u64),
+        Ok((method, used)) => parts_of(method.returned, method.parameters as u32, used as u64),
+        Err(refusal) => refusal.into(),
     }
 }
 
@@ -139,8 +158,12 @@ pub fn nk_decode(code: &[u8], pool: &[u8], records: &mut [u32], entries: &mut [u
     ensures stores_entries { entries.new ≡ entries_after code.now pool.now records.old entries.old }
 {
     match bytecode::decode(code, pool, records, entries) {
-        Decoded::Accepted(count, stored) => accepted(count as u64, stored as u64),
-        Decoded::Refused(number, place, second) => refused(number, place.0 as u64, second),
+        Ok(decoded) => accepted(decoded.instructions as u64, decoded.entries as u64),
+        Err(failure) => refused(
+            failure.reason.number(),
+            failure.place.0 as u64,
+            failure.second,
+        ),
     }
 }
 
@@ -149,9 +172,9 @@ pub fn nk_lookup(records: &[u32], count: u64, offset: u64) -> Answer
     ensures { result ≡ lookup_answer (lookup_of records.now count (record { 0 = offset })) }
 {
     match lookup::find(records, count as usize, CodeOffset(offset as usize)) {
-        Found::At(index) => accepted(index.0 as u64, 1),
-        Found::Nothing => accepted(0, 0),
-        Found::Refused(number, place) => refused(number, place.0 as u64, 0),
+        Ok(Some(index)) => accepted(index.0 as u64, 1),
+        Ok(None) => accepted(0, 0),
+        Err(refusal) => refused(refusal.reason.number(), refusal.place.0 as u64, 0),
     }
 }
 
@@ -159,12 +182,24 @@ pub fn nk_class_name(text: &[u8]) -> Answer
     ensures { result ≡ name_answer (class_name text.now) }
 {
     match class_names::class_name(text) {
-        Checked::Accepted => accepted(0, 0),
-        Checked::Refused(number, place) => refused(number, place as u64, 0),
+        Ok(()) => accepted(0, 0),
+        Err(refusal) => refusal.into(),
     }
 }
 
-// The functions that write have the length as `first`.
+// A part of these four words.
+fn part_of(dimensions: u32, letter: u32, start: u32, length: u32) -> FieldDescriptor
+    ensures { result ≡ part_of dimensions letter start length }
+{
+    FieldDescriptor {
+        dimensions,
+        letter,
+        start,
+        length,
+    }
+}
+
+// The functions that write have the length as `first`. Two alike, as C has a name for each.
 pub fn nk_print_field(
     text: &[u8],
     dimensions: u32,
@@ -176,13 +211,8 @@ pub fn nk_print_field(
     ensures answers { result ≡ output_answer (print_field text.now (part_of dimensions letter name_start name_length) (length out.old)) }
     ensures writes { out.new ≡ field_output text.now (part_of dimensions letter name_start name_length) out.old }
 {
-    let part = FieldDescriptor {
-        dimensions,
-        letter,
-        start: name_start,
-        length: name_length,
-    };
-    written(printing::print_field(text, part, out))
+    let part = part_of(dimensions, letter, name_start, name_length);
+    printing::print_field(text, part, out).into()
 }
 
 pub fn nk_print_return(
@@ -196,13 +226,8 @@ pub fn nk_print_return(
     ensures answers { result ≡ output_answer (print_return text.now (part_of dimensions letter name_start name_length) (length out.old)) }
     ensures writes { out.new ≡ return_output text.now (part_of dimensions letter name_start name_length) out.old }
 {
-    let part = FieldDescriptor {
-        dimensions,
-        letter,
-        start: name_start,
-        length: name_length,
-    };
-    written(printing::print_return(text, part, out))
+    let part = part_of(dimensions, letter, name_start, name_length);
+    printing::print_return(text, part, out).into()
 }
 
 pub fn nk_print_method(
@@ -218,44 +243,39 @@ pub fn nk_print_method(
     ensures answers { result ≡ output_answer (print_method text.now parameters.now count (part_of dimensions letter name_start name_length) (length out.old)) }
     ensures writes { out.new ≡ method_output text.now parameters.now count (part_of dimensions letter name_start name_length) out.old }
 {
-    let returned = FieldDescriptor {
-        dimensions,
-        letter,
-        start: name_start,
-        length: name_length,
-    };
-    written(method_printing::print_method(text, parameters, count as usize, returned, out))
+    let returned = part_of(dimensions, letter, name_start, name_length);
+    method_printing::print_method(text, parameters, count as usize, returned, out).into()
 }
 
 pub fn nk_identifier(name: &[u8], descriptor: &[u8], out: &mut [u8]) -> Answer
     ensures answers { result ≡ output_answer (identifying name.now descriptor.now (length out.old)) }
     ensures writes { out.new ≡ identifier_output name.now descriptor.now out.old }
 {
-    written(identifier::method_identifier(name, descriptor, out))
+    identifier::method_identifier(name, descriptor, out).into()
 }
 
 pub fn nk_field_prefix(text: &[u8]) -> Parts
     ensures { result ≡ field_parts (field_prefix text.now) }
 {
-    field_parts(descriptors::field_prefix(text))
+    descriptors::field_prefix(text).into()
 }
 
 pub fn nk_field_whole(text: &[u8]) -> Parts
     ensures { result ≡ field_parts (field_text text.now) }
 {
-    field_parts(descriptors::field_whole(text))
+    descriptors::field_whole(text).into()
 }
 
 pub fn nk_return_prefix(text: &[u8]) -> Parts
     ensures { result ≡ field_parts (return_prefix text.now) }
 {
-    field_parts(descriptors::return_prefix(text))
+    descriptors::return_prefix(text).into()
 }
 
 pub fn nk_return_whole(text: &[u8]) -> Parts
     ensures { result ≡ field_parts (return_text text.now) }
 {
-    field_parts(descriptors::return_whole(text))
+    descriptors::return_whole(text).into()
 }
 
 // A letter of 0 says that the text is not an array.
@@ -263,9 +283,9 @@ pub fn nk_array(text: &[u8]) -> Parts
     ensures { result ≡ array_parts (length text.now) (array_text text.now) }
 {
     match descriptors::array_whole(text) {
-        Array::Parsed(part) => parts_of(part, 0, text.len() as u64),
-        Array::NotArray => no_parts(0, 0),
-        Array::Refused(number, place) => no_parts(number, place as u64),
+        Ok(Some(part)) => parts_of(part, 0, text.len() as u64),
+        Ok(None) => no_parts(0, 0),
+        Err(refusal) => refusal.into(),
     }
 }
 

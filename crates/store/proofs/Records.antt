@@ -3,6 +3,7 @@ use Prim.Native.Nat.{ℕ, ◌+◌, ◌-◌, ◌≤◌}
 use mathlib.Core.List.{List, ◌++◌, append_assoc}
 use mathlib.Core.Path.{◌≡◌, sym, ap, ap₂, ◌∙◌}
 use native.Mathlib.Omega.{arith}
+use borrow.Rule.Slice.PartMut.{put_mid}
 use lib.ListN.{length, take, drop, length-append}
 use lib.Seq.{sets, sets-eq, take_at, drop_at, drop-drop, length-take-le}
 
@@ -33,3 +34,11 @@ module _ (store : List ℕ) (i : ℕ) (record_words : List ℕ) (fits : i + leng
       ap₂ (λ (front back : List ℕ). front ++ (more ++ back)) take_record (drop_past_record n h)
       ∙ append_assoc (take i store) record_words (more ++ drop n store)
       ∙ ap (λ (l : List ℕ). take i store ++ l) (sym (append_assoc record_words more (drop n store)))
+
+-- a part of a store replaced as a whole
+pub part_replaced : (at k : ℕ) (store part record_words : List ℕ) → at + k ≤ length store → k ≡ length record_words → part ≡ record_words → put_mid at k store part ≡ sets store at record_words
+part_replaced at k store part record_words fits long same =
+    ap (λ (l : List ℕ). take at store ++ (l ++ drop k (drop at store))) same
+    ∙ ap (λ (l : List ℕ). take at store ++ (record_words ++ l)) (drop-drop k at store ∙ ap (λ (m : ℕ). drop (at + m) store) long)
+    ∙ sym (append_assoc (take at store) record_words (drop (at + length record_words) store))
+    ∙ sym (sets-eq record_words store at (omega arith))

@@ -7,9 +7,5 @@ ghost use Rattle.std.specs.Prelude.{◌≡◌, length, replicate};
 pub fn clear(store: &mut [u32])
     ensures { store.new ≡ replicate (length store.old) 0 }
 {
-    let mut i = 0;
-    while i < store.len() {
-        store[i] = 0;
-        i += 1;
-    }
+    store.fill(0);
 }

@@ -6,6 +6,7 @@ use native.Mathlib.Omega.{arith}
 use borrow.Author.Tests.{lt-ltb, le-ltb, le-leb, lt-leb, ltb-true, ltb-false, leb-true, leb-false}
 use lib.Dec.{ltb, leb}
 use lib.IntN.{ℤ, pos, negsuc, neg_ℤ, ◌+ℤ◌, ◌-ℤ◌, neg_ℤ-+ℤ, neg_ℤ-neg_ℤ, +ℤ_assoc, +ℤ_comm, +ℤ_invl, +ℤ_idl, pos-+ℤ-pos}
+use Rattle.std.specs.Prelude.{Some, None}
 use Rattle.operands.specs.Signed.{signed_in, signed_of, word_of}
 use Rattle.operands.proofs.Signed.{below_zero, signed_low, signed_high}
 use Rattle.switches.specs.Switches.{most_entries, count_of, entry_count}
@@ -30,21 +31,27 @@ signed_lifted w h = go (ltb w (2 ^ 31)) refl
         let high : 2 ^ 31 ≤ w = ltb-false _ _ e in
         signed_high 4 w high h ∙ ap negsuc (omega arith) ∙ sym (below_zero ((w + 2 ^ 31) % 2 ^ 32) (2 ^ 31) (omega arith))
 
-count_within : (n : ℕ) → n ≤ most_entries → count_of (pos n) ≡ n
+pub count_within : (above : ℕ) → above + 1 ≤ most_entries → count_of (pos above) ≡ Some (above + 1)
 unfolding count_of
-count_within n h = rw (le-leb _ _ h, count_of)
+count_within above h = rw (le-leb _ _ h, count_of)
 
-pub count_over : (n : ℕ) → most_entries < n → count_of (pos n) ≡ 0
+pub count_over : (above : ℕ) → most_entries < above + 1 → count_of (pos above) ≡ None
 unfolding count_of
-count_over n h = rw (lt-leb _ _ h, count_of)
+count_over above h = rw (lt-leb _ _ h, count_of)
 
--- one more than a number below zero counts for nothing
-pub count_below : (k : ℕ) → count_of (negsuc k +ℤ pos 1) ≡ 0
+pub count_below : (below : ℕ) → count_of (negsuc below) ≡ None
 unfolding count_of
-count_below zero = refl
-count_below (suc k) =
-    let less : 1 < suc (suc k) = omega arith in
-    rw (lt-ltb _ _ less, count_of)
+count_below below = refl
+
+-- one more than a number below zero is at most 0
+none_below : (below n : ℕ) → negsuc below +ℤ pos 1 ≡ pos n → n ≡ 0
+none_below zero n e = cc
+none_below (suc below) n e =
+    let less : 1 < suc (suc below) = omega arith in
+    absurd (let z = rw (lt-ltb _ _ less) at e in cc)
+
+one_more : (above n : ℕ) → pos above +ℤ pos 1 ≡ pos n → above + 1 ≡ n
+one_more above n e = let same : pos (above + 1) ≡ pos n = sym (pos-+ℤ-pos above 1) ∙ e in cc
 
 -- the code's count, from the lifted words
 module _ (low high bottom top : ℕ) (l : low < 2 ^ 32) (h : high < 2 ^ 32) (b : bottom ≡ (low + 2 ^ 31) % 2 ^ 32) (t : top ≡ (high + 2 ^ 31) % 2 ^ 32) where
@@ -54,32 +61,43 @@ module _ (low high bottom top : ℕ) (l : low < 2 ^ 32) (h : high < 2 ^ 32) (b :
       ∙ cancel (pos ((high + 2 ^ 31) % 2 ^ 32)) (pos ((low + 2 ^ 31) % 2 ^ 32)) (pos (2 ^ 31))
       ∙ sym (ap₂ (λ (x y : ℕ). pos x -ℤ pos y) t b)
 
-  pub bounds_crossed : top < bottom → 0 ≡ entry_count low high
-  bounds_crossed c = sym (ap (λ (z : ℤ). count_of (z +ℤ pos 1)) (difference ∙ below_zero top bottom c) ∙ count_below (bottom - suc top))
+  pub bounds_crossed : top < bottom → None ≡ entry_count low high
+  bounds_crossed c = sym (ap count_of (difference ∙ below_zero top bottom c) ∙ count_below (bottom - suc top))
 
-  as_plain : bottom ≤ top → entry_count low high ≡ count_of (pos (top - bottom + 1))
-  as_plain c = ap (λ (z : ℤ). count_of (z +ℤ pos 1)) (difference ∙ above_zero top bottom c)
+  as_plain : bottom ≤ top → entry_count low high ≡ count_of (pos (top - bottom))
+  as_plain c = ap count_of (difference ∙ above_zero top bottom c)
 
-  pub too_many : bottom ≤ top → most_entries ≤ top - bottom → 0 ≡ entry_count low high
-  too_many c m = sym (as_plain c ∙ count_over (top - bottom + 1) (omega arith))
+  pub too_many : bottom ≤ top → most_entries ≤ top - bottom → None ≡ entry_count low high
+  too_many c m = sym (as_plain c ∙ count_over (top - bottom) (omega arith))
 
-  pub counted : bottom ≤ top → top - bottom < most_entries → top - bottom + 1 ≡ entry_count low high
-  counted c m = sym (as_plain c ∙ count_within (top - bottom + 1) (omega arith))
+  pub counted : bottom ≤ top → top - bottom < most_entries → Some (top - bottom + 1) ≡ entry_count low high
+  counted c m = sym (as_plain c ∙ count_within (top - bottom) (omega arith))
 
 -- a number of entries, and what it counts
-pub counts : (z : ℤ) (n : ℕ) → count_of z ≡ suc n → (z ≡ pos (suc n)) × (suc n ≤ most_entries)
-unfolding count_of
-counts (negsuc k) n e = absurd (let z : ◌≡◌ {A = ℕ} 0 (suc n) = e in omega arith)
-counts (pos m) n e = go (leb m most_entries) refl
-  where
-    go : (t : Bool) → leb m most_entries ≡ t → (pos m ≡ pos (suc n)) × (suc n ≤ most_entries)
-    go true q =
-        let same : m ≡ suc n = sym (count_within m (leb-true _ _ q)) ∙ e in
-        (ap pos same, rw (sym same) (leb-true _ _ q))
-    go false q = absurd (let z : ◌≡◌ {A = ℕ} 0 (suc n) = sym (count_over m (leb-false _ _ q)) ∙ e in omega arith)
+same_count : {n m : ℕ} → Some n ≡ Some m → n ≡ m
+same_count e = cc
 
-pub counts_as : (z : ℤ) (n : ℕ) → z ≡ pos n → n ≤ most_entries → count_of z ≡ n
-counts_as z n e h = ap count_of e ∙ count_within n h
+pub counts : (z : ℤ) (n : ℕ) → count_of z ≡ Some n → (z +ℤ pos 1 ≡ pos n) × (1 ≤ n) × (n ≤ most_entries)
+counts (negsuc below) n e = absurd (let z : None ≡ Some n = sym (count_below below) ∙ e in cc)
+counts (pos above) n e = go (leb (above + 1) most_entries) refl
+  where
+    go : (t : Bool) → leb (above + 1) most_entries ≡ t → (pos above +ℤ pos 1 ≡ pos n) × (1 ≤ n) × (n ≤ most_entries)
+    go true q =
+        let few : above + 1 ≤ most_entries = leb-true _ _ q in
+        let same : above + 1 ≡ n = same_count (sym (count_within above few) ∙ e) in
+        (pos-+ℤ-pos above 1 ∙ ap pos same, omega arith, omega arith)
+    go false q = absurd (let z : None ≡ Some n = sym (count_over above (leb-false _ _ q)) ∙ e in cc)
+
+pub counts_as : (z : ℤ) (n : ℕ) → z +ℤ pos 1 ≡ pos n → 1 ≤ n → n ≤ most_entries → count_of z ≡ Some n
+counts_as (pos above) n e some few =
+    let same : above + 1 ≡ n = one_more above n e in
+    count_within above (omega arith) ∙ ap (λ (k : ℕ). Some k) same
+counts_as (negsuc below) n e some few = absurd (let none : n ≡ 0 = none_below below n e in omega arith)
+
+-- and one that is too many
+pub counts_over : (z : ℤ) (n : ℕ) → z +ℤ pos 1 ≡ pos n → most_entries < n → count_of z ≡ None
+counts_over (pos above) n e over = let same : above + 1 ≡ n = one_more above n e in count_over above (omega arith)
+counts_over (negsuc below) n e over = count_below below
 
 -- the word that stores a signed number and so many more
 high_word : (word : ℕ) → 2 ^ 31 ≤ word → signed_of word ≡ pos word -ℤ pos (2 ^ 32)

@@ -1,5 +1,5 @@
 -- A switch is decoded exactly where its picture stands.
-use Prim.Native.Nat.{ℕ, zero, suc, ◌+◌, ◌-◌, ◌*◌, ◌%◌, ◌/◌, ◌^◌, ◌≤◌, ◌<◌}
+use Prim.Native.Nat.{ℕ, zero, suc, ◌+◌, ◌-◌, ◌*◌, ◌%◌, ◌^◌, ◌≤◌, ◌<◌}
 use mathlib.Core.Bool.{Bool, true, false}
 use mathlib.Core.List.{List, [], ◌∷◌, ◌++◌}
 use mathlib.Core.Path.{◌≡◌, refl, sym, ap, ap₂, ◌∙◌, subst}
@@ -9,20 +9,19 @@ use lib.Dec.{leb}
 use lib.IntN.{ℤ, pos, negsuc, ◌+ℤ◌, ◌-ℤ◌, +ℤ_assoc, +ℤ_idr, pos-+ℤ-pos}
 use lib.ListN.{length, length-append}
 use Rattle.read.specs.declared.CodeOffset.{CodeOffset}
-use Rattle.read.specs.declared.Read.{Read}
-use Rattle.read.specs.declared.Read.TheVariants as read
+use Rattle.std.specs.Prelude.{Option, Some, None, Result, Ok, Err}
+use Rattle.refusals.specs.declared.Refusal.{Refusal}
 use Rattle.read.specs.Reads.{big_endian, bytes_at, after, read_of}
 use Rattle.operands.specs.Signed.{signed_of, word_of}
 use Rattle.operands.specs.Pictures.{Stand}
+use Rattle.operands.proofs.Parts.{clash, same_value, same_first, same_end}
 use Rattle.operands.proofs.Exactly.{finds, found}
 use Rattle.operands.proofs.Standing.{stand_here, stand_join, stand_part}
 use Rattle.records.specs.declared.SwitchEntry.{SwitchEntry}
 use Rattle.ordinary.specs.declared.Instruction.{Instruction}
 use Rattle.ordinary.specs.declared.Instruction.TheVariants as instruction
-use Rattle.ordinary.specs.declared.Step.TheVariants as step
-use Rattle.ordinary.specs.Ordinary.{then_read}
-use Rattle.ordinary.proofs.Exactly.{clash, then_found}
-use Rattle.switches.specs.Switches.{padded, words_from, most_entries, entry_count, table_of, table_entries, table_step, lookup_of, lookup_entries, lookup_step}
+use Rattle.ordinary.proofs.Exactly.{decoded, then_found}
+use Rattle.switches.specs.Switches.{padded, words_from, most_entries, entry_count, ended, table_of, table_entries, table_step, lookup_of, lookup_entries, lookup_step}
 use Rattle.switches.specs.Entries.{word_at, table_from, pairs_from, entries_in}
 use Rattle.switches.specs.Pictures.{Padding, WordDrawn, TableEntries, LookupEntries, TablePicture, LookupPicture}
 use Rattle.switches.specs.Theorems.{TableExactly, LookupExactly, TableEntriesDrawn, LookupEntriesDrawn}
@@ -92,13 +91,13 @@ module _ (code : List ℕ) where
   after_word : {at next : CodeOffset} {v : ℕ} (w : Word at v next) {rest : List ℕ} → Stand code next rest → Stand code at (w.bytes ++ rest)
   after_word {at} {next} w {rest} s = stand_join code at w.bytes rest w.stand (subst (λ (o : CodeOffset). Stand code o rest) (w.place ∙ ap (λ (k : ℕ). after k at) (sym w.four)) s)
 
-  word_there : (at : CodeOffset) (v : ℕ) (next : CodeOffset) → read_of 4 code at ≡ read.Value v next → Word at v next
+  word_there : (at : CodeOffset) (v : ℕ) (next : CodeOffset) → read_of 4 code at ≡ Ok (v, next) → Word at v next
   word_there at v next e =
       let f = finds 4 code at v next e in
       let s = stand_here code 4 at f.within in
       record { bytes = bytes_at 4 code at.0; four = s.0; number = f.number; stand = s.1; place = f.place }
 
-  word_read : (at : CodeOffset) (bytes : List ℕ) → length bytes ≡ 4 → Stand code at bytes → read_of 4 code at ≡ read.Value (big_endian bytes) (after 4 at)
+  word_read : (at : CodeOffset) (bytes : List ℕ) → length bytes ≡ 4 → Stand code at bytes → read_of 4 code at ≡ Ok (big_endian bytes, after 4 at)
   word_read at bytes four s =
       found 4 code at (big_endian bytes) (after 4 at)
       (record { within = rw (sym four) s.within; number = ap big_endian (sym (ap (λ (k : ℕ). bytes_at k code at.0) (sym four) ∙ s.there)); place = refl })
@@ -185,19 +184,22 @@ module _ (code : List ℕ) where
       (pairs_read (after 8 at) others (subst (λ (o : CodeOffset). Stand code o rest) further j.1))
 
   -- so many words that were read fit, and the next offset is past them
-  words_there : (count : ℕ) (at : CodeOffset) → at.0 ≤ length code → (v : ℕ) (next : CodeOffset) → words_from count code at ≡ read.Value v next → (at.0 + 4 * count ≤ length code) × (next ≡ after (4 * count) at)
-  words_there count at h v next e = go (leb (4 * count) (length code - at.0)) refl
+  words_there : (count : ℕ) (at : CodeOffset) → at.0 ≤ length code → (next : CodeOffset) → words_from count code at ≡ Ok next → (at.0 + 4 * count ≤ length code) × (next ≡ after (4 * count) at)
+  words_there count at h next e = go (leb (4 * count) (length code - at.0)) refl
     where
       go : (t : Bool) → leb (4 * count) (length code - at.0) ≡ t → (at.0 + 4 * count ≤ length code) × (next ≡ after (4 * count) at)
       go true q =
           let some : 4 * count ≤ length code - at.0 = leb-true _ _ q in
           let fits : at.0 + 4 * count ≤ length code = omega arith in
-          let same : read.Value 0 (after (4 * count) at) ≡ read.Value v next = sym (words_fit code count at fits) ∙ e in
-          (fits, cc)
+          (fits, same_value (sym e ∙ words_fit code count at fits))
       go false q =
           let less : length code - at.0 < 4 * count = leb-false _ _ q in
-          let other : read.Refused 3 (after ((length code - at.0) / 4 * 4) at) ≡ read.Value v next = sym (words_short code count at less) ∙ e in
-          absurd (let z : ◌≡◌ {A = ℕ} 0 1 = cc in omega arith)
+          absurd (clash (sym (words_short code count at less) ∙ e))
+
+  -- a switch whose words were read
+  ended_found : (made : Instruction) (r : Result CodeOffset (Refusal CodeOffset)) (i : Instruction) (next : CodeOffset) → ended made r ≡ Ok (i, next) → (r ≡ Ok next) × (made ≡ i)
+  ended_found made (Ok end) i next e = (ap (λ (m : CodeOffset). Ok m) (same_end e), same_first e)
+  ended_found made (Err r) i next e = absurd (clash e)
 
   -- the padding
   record Padded (at : CodeOffset) : Type 0 where
@@ -265,26 +267,25 @@ module _ (code : List ℕ) where
         place = ends ∙ ap (after (4 * count)) there ∙ at_place (omega (arith, table_length picture, all));
       }
 
-  table_to : (at : CodeOffset) (i : Instruction) (next : CodeOffset) → table_step code at ≡ step.Decoded i next → Decoding TablePicture at i next
+  table_to : (at : CodeOffset) (i : Instruction) (next : CodeOffset) → table_step code at ≡ Ok (i, next) → Decoding TablePicture at i next
   table_to at i next e =
       let d = then_found (read_of 4 code (padded at)) _ i next e in
       let l = then_found (read_of 4 code d.mid) _ i next d.decodes in
       let h = then_found (read_of 4 code l.mid) _ i next l.decodes in
       counted (entry_count l.value h.value) refl (word_there _ _ _ d.reads) (word_there _ _ _ l.reads) (word_there _ _ _ h.reads) h.decodes
     where
-      counted : {default low high : ℕ} {low_at high_at entries : CodeOffset} (count : ℕ) → entry_count low high ≡ count
+      counted : {default low high : ℕ} {low_at high_at entries : CodeOffset} (count : Option ℕ) → entry_count low high ≡ count
           → Word (padded at) default low_at → Word low_at low high_at → Word high_at high entries
-          → table_entries code high_at default low high entries ≡ step.Decoded i next → Decoding TablePicture at i next
-      counted {default} {low} {high} {low_at} {high_at} {entries} zero q d l h e =
-          absurd (clash 10 high_at i next (sym (ap (table_of code high_at default low high entries) q) ∙ e))
-      counted {default} {low} {high} {low_at} {high_at} {entries} (suc n) q d l h e =
-          let w = then_found (words_from (suc n) code entries) _ i next (sym (ap (table_of code high_at default low high entries) q) ∙ e) in
+          → table_entries code high_at default low high entries ≡ Ok (i, next) → Decoding TablePicture at i next
+      counted {default} {low} {high} {low_at} {high_at} {entries} None q d l h e =
+          absurd (clash (sym (ap (table_of code high_at default low high entries) q) ∙ e))
+      counted {default} {low} {high} {low_at} {high_at} {entries} (Some n) q d l h e =
+          let w = ended_found (instruction.TableSwitch default low high entries n) (words_from n code entries) i next (sym (ap (table_of code high_at default low high entries) q) ∙ e) in
           let fits : entries.0 ≤ length code = rw h.place (within_4 high_at h.bytes h.four h.stand) in
           let near : (padded at).0 ≤ length code = (let f = within_4 (padded at) d.bytes d.four d.stand in omega arith) in
-          let c = counts (signed_of high -ℤ signed_of low +ℤ pos 1) n q in
-          let same : step.Decoded (instruction.TableSwitch default low high entries (suc n)) w.mid ≡ step.Decoded i next = w.decodes in
-          let words = words_there (suc n) entries fits w.value w.mid w.reads in
-          table_drawn at i next (padding_there at near) (suc n) d l h words.0 (let mid : next ≡ w.mid = cc in mid ∙ words.1) c.0 (omega arith) c.1 (let is : i ≡ instruction.TableSwitch default low high entries (suc n) = cc in is)
+          let c = counts (signed_of high -ℤ signed_of low) n q in
+          let words = words_there n entries fits next w.0 in
+          table_drawn at i next (padding_there at near) n d l h words.0 words.1 c.0 c.1 c.2 (sym w.1)
 
   -- the parts of a table that stands
   record TableParts {at : CodeOffset} {i : Instruction} {bytes : List ℕ} (t : TablePicture at i bytes) : Type 0 where
@@ -302,7 +303,7 @@ module _ (code : List ℕ) where
       let high_part = part (after 4 (after 4 start)) t.high _ t.high_word low_part.1 in
       record { default = default_part.0; low = low_part.0; high = high_part.0; offsets = high_part.1 }
 
-  table_from_lem : (at : CodeOffset) (i : Instruction) (bytes : List ℕ) → TablePicture at i bytes → Stand code at bytes → table_step code at ≡ step.Decoded i (after (length bytes) at)
+  table_from_lem : (at : CodeOffset) (i : Instruction) (bytes : List ℕ) → TablePicture at i bytes → Stand code at bytes → table_step code at ≡ Ok (i, after (length bytes) at)
   table_from_lem at i bytes t s =
       let n : ℕ = length t.padding in
       let count : ℕ = length t.entries in
@@ -313,15 +314,13 @@ module _ (code : List ℕ) where
       let total : length bytes ≡ n + (4 + (4 + (4 + 4 * count))) = table_length t in
       let fits : entries.0 + 4 * count ≤ length code = rw (sym (table_bytes t.entries_drawn)) parts.offsets.within in
       rw (pads_to at t.padding t.pads, word_read start t.default t.default_word parts.default, word_read (after 4 start) t.low t.low_word parts.low, word_read (after 4 (after 4 start)) t.high t.high_word parts.high)
-      (table_of_lem (after 4 (after 4 start)) count t.some (counts_as _ count t.counted t.few) fits
-      ∙ ap₂ step.Decoded (ap (λ (o : CodeOffset). instruction.TableSwitch (big_endian t.default) (big_endian t.low) (big_endian t.high) o count) there ∙ sym t.is) (at_place (omega (arith, total))))
+      (table_of_lem (after 4 (after 4 start)) count (counts_as _ count t.counted t.some t.few) fits
+      ∙ ap₂ decoded (ap (λ (o : CodeOffset). instruction.TableSwitch (big_endian t.default) (big_endian t.low) (big_endian t.high) o count) there ∙ sym t.is) (at_place (omega (arith, total))))
     where
-      table_of_lem : (place : CodeOffset) {entries : CodeOffset} {default low high : ℕ} (count : ℕ) → 1 ≤ count → entry_count low high ≡ count → entries.0 + 4 * count ≤ length code
-          → table_entries code place default low high entries ≡ step.Decoded (instruction.TableSwitch default low high entries count) (after (4 * count) entries)
-      table_of_lem place zero some q fits = absurd (omega arith)
-      table_of_lem place {entries} {default} {low} {high} (suc k) some q fits =
-          ap (table_of code place default low high entries) q
-          ∙ ap (λ (r : Read). then_read r (λ v next. step.Decoded (instruction.TableSwitch default low high entries (suc k)) next)) (words_fit code (suc k) entries fits)
+      table_of_lem : (place : CodeOffset) {entries : CodeOffset} {default low high : ℕ} (count : ℕ) → entry_count low high ≡ Some count → entries.0 + 4 * count ≤ length code
+          → table_entries code place default low high entries ≡ Ok (instruction.TableSwitch default low high entries count, after (4 * count) entries)
+      table_of_lem place {entries} {default} {low} {high} count q fits =
+          ap (table_of code place default low high entries) q ∙ ap (ended (instruction.TableSwitch default low high entries count)) (words_fit code count entries fits)
 
   lookup_drawn : (at : CodeOffset) (i : Instruction) (next : CodeOffset) (p : Padded at) {default npairs : ℕ} {npairs_at entries : CodeOffset} (count : ℕ)
       → Word (padded at) default npairs_at → Word npairs_at npairs entries → entries.0 + 8 * count ≤ length code → next ≡ after (8 * count) entries
@@ -353,23 +352,22 @@ module _ (code : List ℕ) where
         place = ends ∙ ap (after (8 * count)) there ∙ at_place (omega (arith, lookup_length picture, all));
       }
 
-  lookup_to : (at : CodeOffset) (i : Instruction) (next : CodeOffset) → lookup_step code at ≡ step.Decoded i next → Decoding LookupPicture at i next
+  lookup_to : (at : CodeOffset) (i : Instruction) (next : CodeOffset) → lookup_step code at ≡ Ok (i, next) → Decoding LookupPicture at i next
   lookup_to at i next e =
       let d = then_found (read_of 4 code (padded at)) _ i next e in
       let c = then_found (read_of 4 code d.mid) _ i next d.decodes in
       counted (signed_of c.value) refl (word_there _ _ _ d.reads) (word_there _ _ _ c.reads) c.decodes
     where
       counted : {default npairs : ℕ} {npairs_at entries : CodeOffset} (z : ℤ) → signed_of npairs ≡ z → Word (padded at) default npairs_at → Word npairs_at npairs entries
-          → lookup_entries code npairs_at default npairs entries ≡ step.Decoded i next → Decoding LookupPicture at i next
-      counted {default} {npairs} {npairs_at} {entries} (negsuc k) q d c e = absurd (clash 11 npairs_at i next (sym (ap (lookup_of code npairs_at default entries) q) ∙ e))
+          → lookup_entries code npairs_at default npairs entries ≡ Ok (i, next) → Decoding LookupPicture at i next
+      counted {default} {npairs} {npairs_at} {entries} (negsuc k) q d c e = absurd (clash (sym (ap (lookup_of code npairs_at default entries) q) ∙ e))
       counted {default} {npairs} {npairs_at} {entries} (pos count) q d c e =
-          let w = then_found (words_from (2 * count) code entries) _ i next (sym (ap (lookup_of code npairs_at default entries) q) ∙ e) in
+          let w = ended_found (instruction.LookupSwitch default entries count) (words_from (2 * count) code entries) i next (sym (ap (lookup_of code npairs_at default entries) q) ∙ e) in
           let fits : entries.0 ≤ length code = rw c.place (within_4 npairs_at c.bytes c.four c.stand) in
           let near : (padded at).0 ≤ length code = (let f = within_4 (padded at) d.bytes d.four d.stand in omega arith) in
-          let same : step.Decoded (instruction.LookupSwitch default entries count) w.mid ≡ step.Decoded i next = w.decodes in
-          let words = words_there (2 * count) entries fits w.value w.mid w.reads in
+          let words = words_there (2 * count) entries fits next w.0 in
           let eight : 4 * (2 * count) ≡ 8 * count = omega arith in
-          lookup_drawn at i next (padding_there at near) count d c (rw (sym eight) words.0) (let mid : next ≡ w.mid = cc in mid ∙ words.1 ∙ ap (λ (k : ℕ). after k entries) eight) q (let is : i ≡ instruction.LookupSwitch default entries count = cc in is)
+          lookup_drawn at i next (padding_there at near) count d c (rw (sym eight) words.0) (words.1 ∙ ap (λ (k : ℕ). after k entries) eight) q (sym w.1)
 
   record LookupParts {at : CodeOffset} {i : Instruction} {bytes : List ℕ} (t : LookupPicture at i bytes) : Type 0 where
     default : Stand code (after (length t.padding) at) t.default
@@ -384,7 +382,7 @@ module _ (code : List ℕ) where
       let npairs_part = part (after 4 start) t.npairs _ t.npairs_word default_part.1 in
       record { default = default_part.0; npairs = npairs_part.0; pairs = npairs_part.1 }
 
-  lookup_from : (at : CodeOffset) (i : Instruction) (bytes : List ℕ) → LookupPicture at i bytes → Stand code at bytes → lookup_step code at ≡ step.Decoded i (after (length bytes) at)
+  lookup_from : (at : CodeOffset) (i : Instruction) (bytes : List ℕ) → LookupPicture at i bytes → Stand code at bytes → lookup_step code at ≡ Ok (i, after (length bytes) at)
   lookup_from at i bytes t s =
       let n : ℕ = length t.padding in
       let count : ℕ = length t.entries in
@@ -397,15 +395,15 @@ module _ (code : List ℕ) where
       let fits : entries.0 + 4 * (2 * count) ≤ length code = omega arith in
       rw (pads_to at t.padding t.pads, word_read start t.default t.default_word parts.default, word_read (after 4 start) t.npairs t.npairs_word parts.npairs)
       (ap (lookup_of code (after 4 start) (big_endian t.default) entries) t.counted
-      ∙ ap (λ (r : Read). then_read r (λ v next. step.Decoded (instruction.LookupSwitch (big_endian t.default) entries count) next)) (words_fit code (2 * count) entries fits)
-      ∙ ap₂ step.Decoded (ap (λ (o : CodeOffset). instruction.LookupSwitch (big_endian t.default) o count) there ∙ sym t.is) (at_place (omega (arith, total))))
+      ∙ ap (ended (instruction.LookupSwitch (big_endian t.default) entries count)) (words_fit code (2 * count) entries fits)
+      ∙ ap₂ decoded (ap (λ (o : CodeOffset). instruction.LookupSwitch (big_endian t.default) o count) there ∙ sym t.is) (at_place (omega (arith, total))))
 
 pub table_exactly : TableExactly
 table_exactly code at i next = (
   λ e.
       let d = table_to code at i next e in
       (d.bytes, d.picture, d.stand, d.place),
-  λ t. table_from_lem code at i t.0 t.1 t.2 ∙ ap (step.Decoded i) (sym t.3),
+  λ t. table_from_lem code at i t.0 t.1 t.2 ∙ ap (decoded i) (sym t.3),
 )
 
 pub lookup_exactly : LookupExactly
@@ -413,7 +411,7 @@ lookup_exactly code at i next = (
   λ e.
       let d = lookup_to code at i next e in
       (d.bytes, d.picture, d.stand, d.place),
-  λ t. lookup_from code at i t.0 t.1 t.2 ∙ ap (step.Decoded i) (sym t.3),
+  λ t. lookup_from code at i t.0 t.1 t.2 ∙ ap (decoded i) (sym t.3),
 )
 
 pub table_entries_drawn : TableEntriesDrawn

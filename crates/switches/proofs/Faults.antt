@@ -1,5 +1,5 @@
 -- A switch is refused exactly for its first fault.
-use Prim.Native.Nat.{ℕ, zero, suc, ◌+◌, ◌-◌, ◌*◌, ◌%◌, ◌/◌, ◌≤◌, ◌<◌}
+use Prim.Native.Nat.{ℕ, ◌+◌, ◌-◌, ◌*◌, ◌%◌, ◌/◌, ◌≤◌, ◌<◌}
 use mathlib.Core.Bool.{Bool, true, false}
 use mathlib.Core.List.{List}
 use mathlib.Core.Logic.{◌↔◌}
@@ -10,30 +10,32 @@ use lib.Dec.{leb}
 use lib.IntN.{ℤ, pos, negsuc, ◌+ℤ◌, ◌-ℤ◌}
 use lib.ListN.{length}
 use Rattle.read.specs.declared.CodeOffset.{CodeOffset}
-use Rattle.read.specs.declared.Read.{Read}
-use Rattle.read.specs.declared.Read.TheVariants as read
-use Rattle.read.specs.Reads.{big_endian, bytes_at, after, read_of}
+use Rattle.std.specs.Prelude.{Option, Some, None, Result, Ok, Err}
+use Rattle.refusals.specs.declared.Reason.{Reason}
+use Rattle.refusals.specs.declared.Reason.TheVariants as reason
+use Rattle.refusals.specs.declared.Refusal.{Refusal}
+use Rattle.refusals.specs.Numbers.{refused}
+use Rattle.read.specs.Reads.{Read, big_endian, bytes_at, after, read_of}
 use Rattle.operands.specs.Signed.{signed_of}
-use Rattle.operands.proofs.Exactly.{clash as read_clash, finds, found}
+use Rattle.operands.proofs.Parts.{clash, same_refusal, same_reason, same_place}
+use Rattle.operands.proofs.Exactly.{finds, found}
 use Rattle.operands.proofs.Faults.{read_refused}
 use Rattle.operands.proofs.Standing.{stand_here}
 use Rattle.ordinary.specs.declared.Instruction.{Instruction}
 use Rattle.ordinary.specs.declared.Instruction.TheVariants as instruction
-use Rattle.ordinary.specs.declared.Step.{Step}
-use Rattle.ordinary.specs.declared.Step.TheVariants as step
-use Rattle.ordinary.specs.Ordinary.{then_read}
-use Rattle.ordinary.proofs.Exactly.{clash, further}
+use Rattle.ordinary.specs.Ordinary.{Step, then_read}
+use Rattle.ordinary.proofs.Exactly.{further}
 use Rattle.ordinary.proofs.Faults.{Then, then_refused}
-use Rattle.switches.specs.Switches.{padded, words_from, most_entries, count_of, entry_count, table_of, table_entries, table_step, lookup_of, lookup_entries, lookup_step}
+use Rattle.switches.specs.Switches.{padded, words_from, most_entries, count_of, entry_count, ended, table_of, table_entries, table_step, lookup_of, lookup_entries, lookup_step}
 use Rattle.switches.specs.Faults.{FirstWord, WordStands, WordShort, WordsShort, TableOpening, counted, BelowZero, BadBounds, TableFault, LookupOpening, LookupFault, TableRefusedExactly, LookupRefusedExactly}
 use Rattle.switches.proofs.Laws.{at_place, words_fit, words_short}
-use Rattle.switches.proofs.Counts.{count_over, count_below, counts, counts_as}
+use Rattle.switches.proofs.Counts.{count_within, count_below, counts, counts_as, counts_over}
 
 -- no entries are counted exactly where the bounds are bad
-bounds : (low high : List ℕ) → (entry_count (big_endian low) (big_endian high) ≡ 0) ↔ BadBounds low high
+bounds : (low high : List ℕ) → (entry_count (big_endian low) (big_endian high) ≡ None) ↔ BadBounds low high
 bounds low high = (λ e. to (signed_of (big_endian high) -ℤ signed_of (big_endian low)) refl e, from)
   where
-    to : (d : ℤ) → signed_of (big_endian high) -ℤ signed_of (big_endian low) ≡ d → entry_count (big_endian low) (big_endian high) ≡ 0 → BadBounds low high
+    to : (d : ℤ) → signed_of (big_endian high) -ℤ signed_of (big_endian low) ≡ d → entry_count (big_endian low) (big_endian high) ≡ None → BadBounds low high
     to (negsuc k) q e = BadBounds.crossed (subst BelowZero (sym q) tt)
     to (pos m) q e = many (leb (m + 1) most_entries) refl
       where
@@ -41,16 +43,16 @@ bounds low high = (λ e. to (signed_of (big_endian high) -ℤ signed_of (big_end
         is = ap (λ (z : ℤ). z +ℤ pos 1) q
 
         many : (t : Bool) → leb (m + 1) most_entries ≡ t → BadBounds low high
-        many true l = absurd (let none : m + 1 ≡ 0 = sym (counts_as (counted low high) (m + 1) is (leb-true _ _ l)) ∙ e in omega arith)
+        many true l = absurd (let z : Some (m + 1) ≡ None = sym (ap count_of q ∙ count_within m (leb-true _ _ l)) ∙ e in cc)
         many false l = BadBounds.too_many (m + 1) is (leb-false _ _ l)
 
-    under : (d : ℤ) → BelowZero d → count_of (d +ℤ pos 1) ≡ 0
+    under : (d : ℤ) → BelowZero d → count_of d ≡ None
     under (pos m) below = absurd below
     under (negsuc k) below = count_below k
 
-    from : BadBounds low high → entry_count (big_endian low) (big_endian high) ≡ 0
+    from : BadBounds low high → entry_count (big_endian low) (big_endian high) ≡ None
     from (BadBounds.crossed below) = under (signed_of (big_endian high) -ℤ signed_of (big_endian low)) below
-    from (BadBounds.too_many count is over) = ap count_of is ∙ count_over count over
+    from (BadBounds.too_many count is over) = counts_over (signed_of (big_endian high) -ℤ signed_of (big_endian low)) count is over
 
 -- where the words start
 first_word : (at : CodeOffset) → FirstWord at (padded at)
@@ -63,24 +65,24 @@ padded_is {at} {start} f =
     let aligned : start.0 % 4 ≡ 0 = f.aligned in
     at_place (omega arith)
 
-module _ (code : List ℕ) (n : ℕ) (place : CodeOffset) where
+module _ (code : List ℕ) (why : Reason) (place : CodeOffset) where
   -- a word and what follows it: the word is short, or it stands and what follows is refused
   data Next (at : CodeOffset) (follows : ℕ → CodeOffset → Step) : Type 0 where
-    short : WordShort code at n place → Next at follows
-    more : (word : List ℕ) → WordStands code at word → follows (big_endian word) (after 4 at) ≡ step.Refused n place → Next at follows
+    short : WordShort code at why place → Next at follows
+    more : (word : List ℕ) → WordStands code at word → follows (big_endian word) (after 4 at) ≡ Err (refused why place) → Next at follows
 
-  next_to : (at : CodeOffset) (follows : ℕ → CodeOffset → Step) → then_read (read_of 4 code at) follows ≡ step.Refused n place → Next at follows
-  next_to at follows e = go (then_refused (read_of 4 code at) follows n place e)
+  next_to : (at : CodeOffset) (follows : ℕ → CodeOffset → Step) → then_read (read_of 4 code at) follows ≡ Err (refused why place) → Next at follows
+  next_to at follows e = go (then_refused (read_of 4 code at) follows why place e)
     where
-      go : Then (read_of 4 code at) follows n place → Next at follows
-      go (Then.here r) = let f = (read_refused 4 code at n place).0 r in Next.short (record { number = f.0; placed = f.1; past = f.2 })
+      go : Then (read_of 4 code at) follows why place → Next at follows
+      go (Then.here r) = let f = (read_refused 4 code at why place).0 r in Next.short (record { is = f.0; placed = f.1; past = f.2 })
       go (Then.further_on v mid r d) =
           let f = finds 4 code at v mid r in
           let s = stand_here code 4 at f.within in
           Next.more (bytes_at 4 code at.0) (record { four = s.0; stand = s.1 }) (sym (ap₂ follows f.number f.place) ∙ d)
 
-  short_from : (at : CodeOffset) (follows : ℕ → CodeOffset → Step) → WordShort code at n place → then_read (read_of 4 code at) follows ≡ step.Refused n place
-  short_from at follows s = ap (λ (r : Read). then_read r follows) ((read_refused 4 code at n place).1 (s.number, s.placed, s.past))
+  short_from : (at : CodeOffset) (follows : ℕ → CodeOffset → Step) → WordShort code at why place → then_read (read_of 4 code at) follows ≡ Err (refused why place)
+  short_from at follows s = ap (λ (r : Read). then_read r follows) ((read_refused 4 code at why place).1 (s.is, s.placed, s.past))
 
   word_from : (at : CodeOffset) (follows : ℕ → CodeOffset → Step) (word : List ℕ) → WordStands code at word → then_read (read_of 4 code at) follows ≡ follows (big_endian word) (after 4 at)
   word_from at follows word w =
@@ -88,41 +90,41 @@ module _ (code : List ℕ) (n : ℕ) (place : CodeOffset) where
       let there : bytes_at 4 code at.0 ≡ word = ap (λ (k : ℕ). bytes_at k code at.0) (sym four) ∙ w.stand.there in
       ap (λ (r : Read). then_read r follows) (found 4 code at (big_endian word) (after 4 at) (record { within = rw (sym four) w.stand.within; number = ap big_endian (sym there); place = refl }))
 
-  -- the last read of a switch is refused, or the switch is decoded
-  last_read : (r : Read) (i : Instruction) → then_read r (λ v next. step.Decoded i next) ≡ step.Refused n place → r ≡ read.Refused n place
-  last_read (read.Value v next) i e = absurd (clash n place i next (sym e))
-  last_read (read.Refused m p) i e = let number : m ≡ n = cc in let there : p ≡ place = cc in ap₂ read.Refused number there
+  -- the words of a switch are refused, or the switch is decoded
+  last_read : (r : Result CodeOffset (Refusal CodeOffset)) (i : Instruction) → ended i r ≡ Err (refused why place) → r ≡ Err (refused why place)
+  last_read (Ok next) i e = absurd (clash (sym e))
+  last_read (Err r) i e = ap (λ (s : Refusal CodeOffset). Err s) (same_refusal e)
 
   -- a run of words
-  words_to : (count : ℕ) (at : CodeOffset) → at.0 ≤ length code → words_from count code at ≡ read.Refused n place → WordsShort code at count n place
+  words_to : (count : ℕ) (at : CodeOffset) → at.0 ≤ length code → words_from count code at ≡ Err (refused why place) → WordsShort code at count why place
   words_to count at h e = go (leb (4 * count) (length code - at.0)) refl
     where
-      go : (t : Bool) → leb (4 * count) (length code - at.0) ≡ t → WordsShort code at count n place
+      go : (t : Bool) → leb (4 * count) (length code - at.0) ≡ t → WordsShort code at count why place
       go true q =
           let some : 4 * count ≤ length code - at.0 = leb-true _ _ q in
-          absurd (read_clash n 0 place (after (4 * count) at) (sym e ∙ words_fit code count at (omega arith)))
+          absurd (clash (sym e ∙ words_fit code count at (omega arith)))
       go false q =
           let less : length code - at.0 < 4 * count = leb-false _ _ q in
           let fit : ℕ = (length code - at.0) / 4 in
           let s = stand_here code (4 * fit) at (omega arith) in
-          let same : read.Refused n place ≡ read.Refused 3 (after ((length code - at.0) / 4 * 4) at) = sym e ∙ words_short code count at less in
-          let placed : place ≡ after ((length code - at.0) / 4 * 4) at = cc in
+          let same : refused why place ≡ refused reason.PastEnd (after ((length code - at.0) / 4 * 4) at) = same_refusal (sym e ∙ words_short code count at less) in
+          let placed : place ≡ after ((length code - at.0) / 4 * 4) at = ap (λ (r : Refusal CodeOffset). r.place) same in
           record {
             fit = fit;
             fewer = omega arith;
             words = bytes_at (4 * fit) code at.0;
             all = s.0;
             stand = s.1;
-            short = record { number = cc; placed = placed ∙ at_place (omega arith); past = omega arith };
+            short = record { is = ap (λ (r : Refusal CodeOffset). r.reason) same; placed = placed ∙ at_place (omega arith); past = omega arith };
           }
 
-  words_from_lem : (count : ℕ) (at : CodeOffset) → WordsShort code at count n place → words_from count code at ≡ read.Refused n place
+  words_from_lem : (count : ℕ) (at : CodeOffset) → WordsShort code at count why place → words_from count code at ≡ Err (refused why place)
   words_from_lem count at w =
       let fit : ℕ = w.fit in
       let fewer : fit < count = w.fewer in
       let within : at.0 + 4 * fit ≤ length code = rw (sym w.all) w.stand.within in
       let past : length code < at.0 + 4 * fit + 4 = w.short.past in
-      words_short code count at (omega arith) ∙ ap₂ read.Refused (sym w.short.number) (at_place (omega arith) ∙ sym w.short.placed)
+      words_short code count at (omega arith) ∙ ap₂ (λ (r : Reason) (p : CodeOffset). Err (refused r p)) (sym w.short.is) (at_place (omega arith) ∙ sym w.short.placed)
 
   after_word : {at : CodeOffset} {word : List ℕ} → WordStands code at word → at.0 + 4 ≤ length code
   after_word {word = word} w = let four : length word ≡ 4 = w.four in rw (sym four) w.stand.within
@@ -138,33 +140,33 @@ module _ (code : List ℕ) (n : ℕ) (place : CodeOffset) where
   after_default default low_at = then_read (read_of 4 code low_at) (after_low default)
 
   module _ (at : CodeOffset) where
-    entries_to : (o : TableOpening code at) → table_entries code (after 8 o.start) (big_endian o.default) (big_endian o.low) (big_endian o.high) (after 12 o.start) ≡ step.Refused n place → TableFault code at n place
+    entries_to : (o : TableOpening code at) → table_entries code (after 8 o.start) (big_endian o.default) (big_endian o.low) (big_endian o.high) (after 12 o.start) ≡ Err (refused why place) → TableFault code at why place
     entries_to o e = go (entry_count (big_endian o.low) (big_endian o.high)) refl
       where
-        go : (count : ℕ) → entry_count (big_endian o.low) (big_endian o.high) ≡ count → TableFault code at n place
-        go zero q =
-            let same : step.Refused 10 (after 8 o.start) ≡ step.Refused n place = sym (ap (table_of code (after 8 o.start) (big_endian o.default) (big_endian o.low) (big_endian o.high) (after 12 o.start)) q) ∙ e in
-            TableFault.bad_bounds o (cc) (cc) ((bounds o.low o.high).0 q)
-        go (suc k) q =
-            let c = counts (counted o.low o.high) k q in
+        go : (count : Option ℕ) → entry_count (big_endian o.low) (big_endian o.high) ≡ count → TableFault code at why place
+        go None q =
+            let same = sym e ∙ ap (table_of code (after 8 o.start) (big_endian o.default) (big_endian o.low) (big_endian o.high) (after 12 o.start)) q in
+            TableFault.bad_bounds o (same_reason same) (same_place same) ((bounds o.low o.high).0 q)
+        go (Some count) q =
+            let c = counts (signed_of (big_endian o.high) -ℤ signed_of (big_endian o.low)) count q in
             let within : (after 8 o.start).0 + 4 ≤ length code = after_word o.high_word in
-            let r = last_read (words_from (suc k) code (after 12 o.start)) (instruction.TableSwitch (big_endian o.default) (big_endian o.low) (big_endian o.high) (after 12 o.start) (suc k)) (sym (ap (table_of code (after 8 o.start) (big_endian o.default) (big_endian o.low) (big_endian o.high) (after 12 o.start)) q) ∙ e) in
-            TableFault.entry_short o (suc k) c.0 c.1 (words_to (suc k) (after 12 o.start) (omega arith) r)
+            let r = last_read (words_from count code (after 12 o.start)) (instruction.TableSwitch (big_endian o.default) (big_endian o.low) (big_endian o.high) (after 12 o.start) count) (sym (ap (table_of code (after 8 o.start) (big_endian o.default) (big_endian o.low) (big_endian o.high) (after 12 o.start)) q) ∙ e) in
+            TableFault.entry_short o count c.0 c.2 (words_to count (after 12 o.start) (omega arith) r)
 
-    table_to : table_step code at ≡ step.Refused n place → TableFault code at n place
+    table_to : table_step code at ≡ Err (refused why place) → TableFault code at why place
     table_to e = defaulted (next_to (padded at) after_default e)
       where
-        highed : (default low : List ℕ) → WordStands code (padded at) default → WordStands code (after 4 (padded at)) low → Next (after 8 (padded at)) (after_high (after 8 (padded at)) (big_endian default) (big_endian low)) → TableFault code at n place
+        highed : (default low : List ℕ) → WordStands code (padded at) default → WordStands code (after 4 (padded at)) low → Next (after 8 (padded at)) (after_high (after 8 (padded at)) (big_endian default) (big_endian low)) → TableFault code at why place
         highed default low d l (Next.short s) = TableFault.high_short (padded at) (first_word at) default low d l s
         highed default low d l (Next.more high h e) =
             entries_to (record { start = padded at; first = first_word at; default = default; low = low; high = high; default_word = d; low_word = l; high_word = h })
             (sym (ap (λ (p : CodeOffset). table_entries code (after 8 (padded at)) (big_endian default) (big_endian low) (big_endian high) p) (further (padded at) 8 4)) ∙ e)
 
-        lowed : (default : List ℕ) → WordStands code (padded at) default → Next (after 4 (padded at)) (after_low (big_endian default)) → TableFault code at n place
+        lowed : (default : List ℕ) → WordStands code (padded at) default → Next (after 4 (padded at)) (after_low (big_endian default)) → TableFault code at why place
         lowed default d (Next.short s) = TableFault.low_short (padded at) (first_word at) default d s
         lowed default d (Next.more low l e) = highed default low d l (next_to (after 8 (padded at)) (after_high (after 8 (padded at)) (big_endian default) (big_endian low)) (sym (ap (after_low (big_endian default) (big_endian low)) (further (padded at) 4 4)) ∙ e))
 
-        defaulted : Next (padded at) after_default → TableFault code at n place
+        defaulted : Next (padded at) after_default → TableFault code at why place
         defaulted (Next.short s) = TableFault.default_short (padded at) (first_word at) s
         defaulted (Next.more default d e) = lowed default d (next_to (after 4 (padded at)) (after_low (big_endian default)) e)
 
@@ -184,22 +186,19 @@ module _ (code : List ℕ) (n : ℕ) (place : CodeOffset) where
         ∙ word_from (after 8 o.start) (after_high (after 8 o.start) (big_endian o.default) (big_endian o.low)) o.high o.high_word
         ∙ ap (λ (p : CodeOffset). table_entries code (after 8 o.start) (big_endian o.default) (big_endian o.low) (big_endian o.high) p) (further o.start 8 4)
 
-    table_from_lem : TableFault code at n place → table_step code at ≡ step.Refused n place
+    table_from_lem : TableFault code at why place → table_step code at ≡ Err (refused why place)
     table_from_lem (TableFault.default_short start f s) = at_start f ∙ short_from start after_default s
     table_from_lem (TableFault.low_short start f default d s) = past_default f default d ∙ short_from (after 4 start) (after_low (big_endian default)) s
     table_from_lem (TableFault.high_short start f default low d l s) = past_low f default low d l ∙ short_from (after 8 start) (after_high (after 8 start) (big_endian default) (big_endian low)) s
     table_from_lem (TableFault.bad_bounds o ten there bad) =
         past_high o
         ∙ ap (table_of code (after 8 o.start) (big_endian o.default) (big_endian o.low) (big_endian o.high) (after 12 o.start)) ((bounds o.low o.high).1 bad)
-        ∙ ap₂ step.Refused (sym ten) (sym there)
-    table_from_lem (TableFault.entry_short o count is few w) = past_high o ∙ short_of count (counts_as (counted o.low o.high) count is few) w
-      where
-        short_of : (count : ℕ) → entry_count (big_endian o.low) (big_endian o.high) ≡ count → WordsShort code (after 12 o.start) count n place
-            → table_entries code (after 8 o.start) (big_endian o.default) (big_endian o.low) (big_endian o.high) (after 12 o.start) ≡ step.Refused n place
-        short_of zero q w = absurd (let fewer : w.fit < 0 = w.fewer in omega arith)
-        short_of (suc k) q w =
-            ap (table_of code (after 8 o.start) (big_endian o.default) (big_endian o.low) (big_endian o.high) (after 12 o.start)) q
-            ∙ ap (λ (r : Read). then_read r (λ v next. step.Decoded (instruction.TableSwitch (big_endian o.default) (big_endian o.low) (big_endian o.high) (after 12 o.start) (suc k)) next)) (words_from_lem (suc k) (after 12 o.start) w)
+        ∙ rw (ten, there)
+    table_from_lem (TableFault.entry_short o count is few w) =
+        let fewer : w.fit < count = w.fewer in
+        past_high o
+        ∙ ap (table_of code (after 8 o.start) (big_endian o.default) (big_endian o.low) (big_endian o.high) (after 12 o.start)) (counts_as (signed_of (big_endian o.high) -ℤ signed_of (big_endian o.low)) count is (omega arith) few)
+        ∙ ap (ended (instruction.TableSwitch (big_endian o.default) (big_endian o.low) (big_endian o.high) (after 12 o.start) count)) (words_from_lem count (after 12 o.start) w)
 
   -- the parts of a lookup
   abbrev after_count : CodeOffset → ℕ → ℕ → CodeOffset → Step
@@ -209,28 +208,28 @@ module _ (code : List ℕ) (n : ℕ) (place : CodeOffset) where
   after_its_default default count_at = then_read (read_of 4 code count_at) (after_count count_at default)
 
   module _ (at : CodeOffset) where
-    pairs_to : (o : LookupOpening code at) → lookup_entries code (after 4 o.start) (big_endian o.default) (big_endian o.npairs) (after 8 o.start) ≡ step.Refused n place → LookupFault code at n place
+    pairs_to : (o : LookupOpening code at) → lookup_entries code (after 4 o.start) (big_endian o.default) (big_endian o.npairs) (after 8 o.start) ≡ Err (refused why place) → LookupFault code at why place
     pairs_to o e = go (signed_of (big_endian o.npairs)) refl
       where
-        go : (z : ℤ) → signed_of (big_endian o.npairs) ≡ z → LookupFault code at n place
+        go : (z : ℤ) → signed_of (big_endian o.npairs) ≡ z → LookupFault code at why place
         go (pos count) q =
             let within : (after 4 o.start).0 + 4 ≤ length code = after_word o.npairs_word in
             let r = last_read (words_from (2 * count) code (after 8 o.start)) (instruction.LookupSwitch (big_endian o.default) (after 8 o.start) count) (sym (ap (lookup_of code (after 4 o.start) (big_endian o.default) (after 8 o.start)) q) ∙ e) in
             LookupFault.pair_short o count q (words_to (2 * count) (after 8 o.start) (omega arith) r)
         go (negsuc k) q =
-            let same : step.Refused 11 (after 4 o.start) ≡ step.Refused n place = sym (ap (lookup_of code (after 4 o.start) (big_endian o.default) (after 8 o.start)) q) ∙ e in
-            LookupFault.negative o (cc) (cc) (subst BelowZero (sym q) tt)
+            let same = sym e ∙ ap (lookup_of code (after 4 o.start) (big_endian o.default) (after 8 o.start)) q in
+            LookupFault.negative o (same_reason same) (same_place same) (subst BelowZero (sym q) tt)
 
-    lookup_to : lookup_step code at ≡ step.Refused n place → LookupFault code at n place
+    lookup_to : lookup_step code at ≡ Err (refused why place) → LookupFault code at why place
     lookup_to e = defaulted (next_to (padded at) after_its_default e)
       where
-        counts_pairs : (default : List ℕ) → WordStands code (padded at) default → Next (after 4 (padded at)) (after_count (after 4 (padded at)) (big_endian default)) → LookupFault code at n place
+        counts_pairs : (default : List ℕ) → WordStands code (padded at) default → Next (after 4 (padded at)) (after_count (after 4 (padded at)) (big_endian default)) → LookupFault code at why place
         counts_pairs default d (Next.short s) = LookupFault.npairs_short (padded at) (first_word at) default d s
         counts_pairs default d (Next.more npairs c e) =
             pairs_to (record { start = padded at; first = first_word at; default = default; npairs = npairs; default_word = d; npairs_word = c })
             (sym (ap (λ (p : CodeOffset). lookup_entries code (after 4 (padded at)) (big_endian default) (big_endian npairs) p) (further (padded at) 4 4)) ∙ e)
 
-        defaulted : Next (padded at) after_its_default → LookupFault code at n place
+        defaulted : Next (padded at) after_its_default → LookupFault code at why place
         defaulted (Next.short s) = LookupFault.default_short (padded at) (first_word at) s
         defaulted (Next.more default d e) = counts_pairs default d (next_to (after 4 (padded at)) (after_count (after 4 (padded at)) (big_endian default)) e)
 
@@ -246,21 +245,21 @@ module _ (code : List ℕ) (n : ℕ) (place : CodeOffset) where
         ∙ word_from (after 4 o.start) (after_count (after 4 o.start) (big_endian o.default)) o.npairs o.npairs_word
         ∙ ap (λ (p : CodeOffset). lookup_entries code (after 4 o.start) (big_endian o.default) (big_endian o.npairs) p) (further o.start 4 4)
 
-    lookup_from : LookupFault code at n place → lookup_step code at ≡ step.Refused n place
+    lookup_from : LookupFault code at why place → lookup_step code at ≡ Err (refused why place)
     lookup_from (LookupFault.default_short start f s) = lookup_at_start f ∙ short_from start after_its_default s
     lookup_from (LookupFault.npairs_short start f default d s) = past_its_default f default d ∙ short_from (after 4 start) (after_count (after 4 start) (big_endian default)) s
-    lookup_from (LookupFault.negative o eleven there below) = past_npairs o ∙ under (signed_of (big_endian o.npairs)) below ∙ ap₂ step.Refused (sym eleven) (sym there)
+    lookup_from (LookupFault.negative o eleven there below) = past_npairs o ∙ under (signed_of (big_endian o.npairs)) below ∙ rw (eleven, there)
       where
-        under : (z : ℤ) → BelowZero z → lookup_of code (after 4 o.start) (big_endian o.default) (after 8 o.start) z ≡ step.Refused 11 (after 4 o.start)
+        under : (z : ℤ) → BelowZero z → lookup_of code (after 4 o.start) (big_endian o.default) (after 8 o.start) z ≡ Err (refused reason.NegativeCount (after 4 o.start))
         under (pos m) below = absurd below
         under (negsuc k) below = refl
     lookup_from (LookupFault.pair_short o count is w) =
         past_npairs o
         ∙ ap (lookup_of code (after 4 o.start) (big_endian o.default) (after 8 o.start)) is
-        ∙ ap (λ (r : Read). then_read r (λ v next. step.Decoded (instruction.LookupSwitch (big_endian o.default) (after 8 o.start) count) next)) (words_from_lem (2 * count) (after 8 o.start) w)
+        ∙ ap (ended (instruction.LookupSwitch (big_endian o.default) (after 8 o.start) count)) (words_from_lem (2 * count) (after 8 o.start) w)
 
 pub table_refused_exactly : TableRefusedExactly
-table_refused_exactly code at n place = (table_to code n place at, table_from_lem code n place at)
+table_refused_exactly code at why place = (table_to code why place at, table_from_lem code why place at)
 
 pub lookup_refused_exactly : LookupRefusedExactly
-lookup_refused_exactly code at n place = (lookup_to code n place at, lookup_from code n place at)
+lookup_refused_exactly code at why place = (lookup_to code why place at, lookup_from code why place at)

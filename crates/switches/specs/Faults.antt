@@ -1,12 +1,14 @@
--- What is wrong with a switch after its opcode, and document 01's number and place for it, from the side of the bytes that
+-- What is wrong with a switch after its opcode, and document 01's reason and place for it, from the side of the bytes that
 -- stand there. Nothing here is read. The proofs are in proofs/Faults.antt.
-use Rattle.std.specs.Prelude.{ℕ, ◌+◌, ◌*◌, ◌%◌, ◌≤◌, ◌<◌, List, ◌↔◌, ◌≡◌, ℤ, pos, negsuc, ◌+ℤ◌, ◌-ℤ◌, length}
+use Rattle.std.specs.Prelude.{ℕ, ◌+◌, ◌*◌, ◌%◌, ◌≤◌, ◌<◌, List, ◌↔◌, ◌≡◌, ℤ, pos, negsuc, ◌+ℤ◌, ◌-ℤ◌, length, Err}
 use Rattle.read.specs.declared.CodeOffset.{CodeOffset}
 use Rattle.read.specs.Reads.{big_endian, after}
 use Rattle.operands.specs.Signed.{signed_of}
 use Rattle.operands.specs.Pictures.{Stand}
-use Rattle.ordinary.specs.declared.Step.{Step}
-use Rattle.ordinary.specs.declared.Step.TheVariants as step
+use Rattle.ordinary.specs.Ordinary.{Step}
+use Rattle.refusals.specs.declared.Reason.{Reason}
+use Rattle.refusals.specs.declared.Reason.TheVariants as reason
+use Rattle.refusals.specs.Numbers.{refused}
 use Rattle.switches.specs.Switches.{most_entries, table_step, lookup_step}
 
 -- where the words of a switch start: the next offset divisible by 4, counted from the code's start. It may lie past the end
@@ -21,19 +23,19 @@ pub record WordStands (code : List ℕ) (at : CodeOffset) (word : List ℕ) : Ty
   pub stand : Stand code at word
 
 -- 3, where the word starts: the code ends within it
-pub record WordShort (code : List ℕ) (at : CodeOffset) (n : ℕ) (place : CodeOffset) : Type 0 where
-  pub number : n ≡ 3
+pub record WordShort (code : List ℕ) (at : CodeOffset) (why : Reason) (place : CodeOffset) : Type 0 where
+  pub is : why ≡ reason.PastEnd
   pub placed : place ≡ at
   pub past : length code < at.0 + 4
 
 -- of so many words the first stand, and the next is short
-pub record WordsShort (code : List ℕ) (at : CodeOffset) (count n : ℕ) (place : CodeOffset) : Type 0 where
+pub record WordsShort (code : List ℕ) (at : CodeOffset) (count : ℕ) (why : Reason) (place : CodeOffset) : Type 0 where
   pub fit : ℕ
   pub fewer : fit < count
   pub words : List ℕ
   pub all : length words ≡ 4 * fit
   pub stand : Stand code at words
-  pub short : WordShort code (after (4 * fit) at) n place
+  pub short : WordShort code (after (4 * fit) at) why place
 
 -- the words of a table before its entries
 pub record TableOpening (code : List ℕ) (at : CodeOffset) : Type 0 where
@@ -60,21 +62,21 @@ pub data BadBounds (low high : List ℕ) : Type 0 where
   too_many : (count : ℕ) → counted low high ≡ pos count → most_entries < count → BadBounds low high
 
 -- tableswitch: one of its first three words is short; bad bounds, 10 at the high word; or an entry is short
-pub data TableFault (code : List ℕ) (at : CodeOffset) (n : ℕ) (place : CodeOffset) : Type 0 where
-  default_short : (start : CodeOffset) → FirstWord at start → WordShort code start n place → TableFault code at n place
+pub data TableFault (code : List ℕ) (at : CodeOffset) (why : Reason) (place : CodeOffset) : Type 0 where
+  default_short : (start : CodeOffset) → FirstWord at start → WordShort code start why place → TableFault code at why place
   low_short :
       (start : CodeOffset) → FirstWord at start → (default : List ℕ) → WordStands code start default
-      → WordShort code (after 4 start) n place
-      → TableFault code at n place
+      → WordShort code (after 4 start) why place
+      → TableFault code at why place
   high_short :
       (start : CodeOffset) → FirstWord at start → (default low : List ℕ) → WordStands code start default
-      → WordStands code (after 4 start) low → WordShort code (after 8 start) n place
-      → TableFault code at n place
-  bad_bounds : (o : TableOpening code at) → n ≡ 10 → place ≡ after 8 o.start → BadBounds o.low o.high → TableFault code at n place
+      → WordStands code (after 4 start) low → WordShort code (after 8 start) why place
+      → TableFault code at why place
+  bad_bounds : (o : TableOpening code at) → why ≡ reason.BadBounds → place ≡ after 8 o.start → BadBounds o.low o.high → TableFault code at why place
   entry_short :
       (o : TableOpening code at) (count : ℕ) → counted o.low o.high ≡ pos count → count ≤ most_entries
-      → WordsShort code (after 12 o.start) count n place
-      → TableFault code at n place
+      → WordsShort code (after 12 o.start) count why place
+      → TableFault code at why place
 
 -- the words of a lookup before its pairs
 pub record LookupOpening (code : List ℕ) (at : CodeOffset) : Type 0 where
@@ -86,22 +88,22 @@ pub record LookupOpening (code : List ℕ) (at : CodeOffset) : Type 0 where
   pub npairs_word : WordStands code (after 4 start) npairs
 
 -- lookupswitch: one of its first two words is short; npairs is negative, 11 at npairs; or a word of a pair is short
-pub data LookupFault (code : List ℕ) (at : CodeOffset) (n : ℕ) (place : CodeOffset) : Type 0 where
-  default_short : (start : CodeOffset) → FirstWord at start → WordShort code start n place → LookupFault code at n place
+pub data LookupFault (code : List ℕ) (at : CodeOffset) (why : Reason) (place : CodeOffset) : Type 0 where
+  default_short : (start : CodeOffset) → FirstWord at start → WordShort code start why place → LookupFault code at why place
   npairs_short :
       (start : CodeOffset) → FirstWord at start → (default : List ℕ) → WordStands code start default
-      → WordShort code (after 4 start) n place
-      → LookupFault code at n place
-  negative : (o : LookupOpening code at) → n ≡ 11 → place ≡ after 4 o.start → BelowZero (signed_of (big_endian o.npairs)) → LookupFault code at n place
+      → WordShort code (after 4 start) why place
+      → LookupFault code at why place
+  negative : (o : LookupOpening code at) → why ≡ reason.NegativeCount → place ≡ after 4 o.start → BelowZero (signed_of (big_endian o.npairs)) → LookupFault code at why place
   pair_short :
       (o : LookupOpening code at) (count : ℕ) → signed_of (big_endian o.npairs) ≡ pos count
-      → WordsShort code (after 8 o.start) (2 * count) n place
-      → LookupFault code at n place
+      → WordsShort code (after 8 o.start) (2 * count) why place
+      → LookupFault code at why place
 
 -- refused exactly for its fault
-abbrev FaultExactly : (List ℕ → CodeOffset → Step) → (List ℕ → CodeOffset → ℕ → CodeOffset → Type 0) → Type 0
+abbrev FaultExactly : (List ℕ → CodeOffset → Step) → (List ℕ → CodeOffset → Reason → CodeOffset → Type 0) → Type 0
 FaultExactly step_of Fault =
-    (code : List ℕ) (at : CodeOffset) (n : ℕ) (place : CodeOffset) → (step_of code at ≡ step.Refused n place) ↔ Fault code at n place
+    (code : List ℕ) (at : CodeOffset) (why : Reason) (place : CodeOffset) → (step_of code at ≡ Err (refused why place)) ↔ Fault code at why place
 
 -- proved as `table_refused_exactly`, `lookup_refused_exactly`
 abbrev pub TableRefusedExactly : Type 0

@@ -1,42 +1,47 @@
--- The two switches of JVMS 6.5, read in order with document 01's numbers and places. `at` is the offset after the opcode.
-use Rattle.std.specs.Prelude.{ℕ, zero, suc, ◌+◌, ◌*◌, ◌/◌, true, false, List, leb, ℤ, pos, negsuc, ◌+ℤ◌, ◌-ℤ◌}
+-- The two switches of JVMS 6.5, read in order with document 01's reasons and places. `at` is the offset after the opcode.
+use Rattle.std.specs.Prelude.{ℕ, zero, suc, ◌+◌, ◌*◌, ◌/◌, true, false, List, leb, ℤ, pos, negsuc, ◌-ℤ◌, Option, Some, None, Result, Ok, Err}
 use Rattle.read.specs.declared.CodeOffset.{CodeOffset}
-use Rattle.read.specs.declared.Read.{Read}
-use Rattle.read.specs.declared.Read.TheVariants as read
+use Rattle.refusals.specs.declared.Reason.TheVariants as reason
+use Rattle.refusals.specs.declared.Refusal.{Refusal}
+use Rattle.refusals.specs.Numbers.{refused}
 use Rattle.read.specs.Reads.{read_of}
 use Rattle.operands.specs.Signed.{signed_of}
+use Rattle.ordinary.specs.declared.Instruction.{Instruction}
 use Rattle.ordinary.specs.declared.Instruction.TheVariants as instruction
-use Rattle.ordinary.specs.declared.Step.{Step}
-use Rattle.ordinary.specs.declared.Step.TheVariants as step
-use Rattle.ordinary.specs.Ordinary.{then_read}
+use Rattle.ordinary.specs.Ordinary.{Step, then_read}
 
 -- the next offset divisible by 4, counted from the code's start
 abbrev pub padded : CodeOffset → CodeOffset
 padded at = record { 0 = (at.0 + 3) / 4 * 4 }
 
 -- so many words of four bytes, read in turn: the offset after them, or the refusal of the first that does not fit
-unfoldable pub words_from : ℕ → List ℕ → CodeOffset → Read
-words_from zero code at = read.Value 0 at
-words_from (suc count) code at = elim (read_of 4 code at) [ read.Value v next ↦ words_from count code next | read.Refused n p ↦ read.Refused n p ]
+unfoldable pub words_from : ℕ → List ℕ → CodeOffset → Result CodeOffset (Refusal CodeOffset)
+words_from zero code at = Ok at
+words_from (suc count) code at = elim (read_of 4 code at) [ Ok found ↦ words_from count code found.1 | Err r ↦ Err r ]
 
 -- document 01: at most so many entries, which is the largest signed word
 abbrev pub most_entries : ℕ
 most_entries = 2147483647
 
--- how many entries a table from low to high has, as signed numbers: none where low > high, and none where they are too many
-unfoldable pub count_of : ℤ → ℕ
-count_of (pos n) = elim (leb n most_entries) [ true ↦ n | false ↦ 0 ]
-count_of (negsuc n) = 0
+-- how many entries a table has whose high is so far above its low: none where it lies below, and none where they are too many
+unfoldable pub count_of : ℤ → Option ℕ
+count_of (pos above) = elim (leb (above + 1) most_entries) [ true ↦ Some (above + 1) | false ↦ None ]
+count_of (negsuc below) = None
 
-abbrev pub entry_count : ℕ → ℕ → ℕ
-entry_count low high = count_of (signed_of high -ℤ signed_of low +ℤ pos 1)
+-- as signed numbers
+abbrev pub entry_count : ℕ → ℕ → Option ℕ
+entry_count low high = count_of (signed_of high -ℤ signed_of low)
+
+-- an instruction that ends where its words do, or the refusal of these
+abbrev pub ended : Instruction → Result CodeOffset (Refusal CodeOffset) → Step
+ended i (Ok next) = Ok (i, next)
+ended i (Err r) = Err r
 
 -- JVMS 6.5 tableswitch: a default, low, high, and high - low + 1 offsets. 10: low > high or too many entries
-abbrev pub table_of : List ℕ → CodeOffset → ℕ → ℕ → ℕ → CodeOffset → ℕ → Step
-table_of code place default low high entries zero = step.Refused 10 place
-table_of code place default low high entries (suc n) =
-    then_read (words_from (suc n) code entries)
-    (λ v next. step.Decoded (instruction.TableSwitch default low high entries (suc n)) next)
+abbrev pub table_of : List ℕ → CodeOffset → ℕ → ℕ → ℕ → CodeOffset → Option ℕ → Step
+table_of code place default low high entries None = Err (refused reason.BadBounds place)
+table_of code place default low high entries (Some n) =
+    ended (instruction.TableSwitch default low high entries n) (words_from n code entries)
 
 abbrev pub table_entries : List ℕ → CodeOffset → ℕ → ℕ → ℕ → CodeOffset → Step
 table_entries code place default low high entries = table_of code place default low high entries (entry_count low high)
@@ -51,8 +56,8 @@ table_step code at =
 -- JVMS 6.5 lookupswitch: a default, npairs, and so many pairs of a key and an offset. 11: npairs is negative
 abbrev pub lookup_of : List ℕ → CodeOffset → ℕ → CodeOffset → ℤ → Step
 lookup_of code place default entries (pos n) =
-    then_read (words_from (2 * n) code entries) (λ v next. step.Decoded (instruction.LookupSwitch default entries n) next)
-lookup_of code place default entries (negsuc n) = step.Refused 11 place
+    ended (instruction.LookupSwitch default entries n) (words_from (2 * n) code entries)
+lookup_of code place default entries (negsuc n) = Err (refused reason.NegativeCount place)
 
 abbrev pub lookup_entries : List ℕ → CodeOffset → ℕ → ℕ → CodeOffset → Step
 lookup_entries code place default npairs entries = lookup_of code place default entries (signed_of npairs)

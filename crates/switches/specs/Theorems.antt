@@ -1,11 +1,10 @@
 -- The reading of a switch and its picture agree. The proofs are in proofs/Exactly.antt.
-use Rattle.std.specs.Prelude.{ℕ, List, ◌↔◌, ◌≡◌, length}
+use Rattle.std.specs.Prelude.{ℕ, List, ◌↔◌, ◌≡◌, length, Ok}
 use Rattle.read.specs.declared.CodeOffset.{CodeOffset}
 use Rattle.read.specs.Reads.{after}
 use Rattle.operands.specs.Pictures.{Stand}
 use Rattle.ordinary.specs.declared.Instruction.{Instruction}
-use Rattle.ordinary.specs.declared.Step.{Step}
-use Rattle.ordinary.specs.declared.Step.TheVariants as step
+use Rattle.ordinary.specs.Ordinary.{Step}
 use Rattle.switches.specs.Switches.{table_step, lookup_step}
 use Rattle.switches.specs.Entries.{entries_in}
 use Rattle.switches.specs.Pictures.{TablePicture, LookupPicture}
@@ -14,7 +13,7 @@ use Rattle.switches.specs.Pictures.{TablePicture, LookupPicture}
 abbrev SwitchExactly : (List ℕ → CodeOffset → Step) → (CodeOffset → Instruction → List ℕ → Type 0) → Type 0
 SwitchExactly step_of Picture =
     (code : List ℕ) (at : CodeOffset) (i : Instruction) (next : CodeOffset)
-    → (step_of code at ≡ step.Decoded i next)
+    → (step_of code at ≡ Ok (i, next))
     ↔ ((bytes : List ℕ) × Picture at i bytes × Stand code at bytes × (next ≡ after (length bytes) at))
 
 -- proved as `table_exactly`, `lookup_exactly`

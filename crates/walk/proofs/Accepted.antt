@@ -7,6 +7,7 @@ use mathlib.Core.Path.{◌≡◌, refl, sym, ap, ◌∙◌, subst}
 use native.Mathlib.Omega.{arith}
 use lib.IntN.{ℤ, pos, ◌+ℤ◌, ◌-ℤ◌}
 use lib.ListN.{length, length-map}
+use Rattle.std.specs.Prelude.{Ok}
 use Rattle.read.specs.declared.CodeOffset.{CodeOffset}
 use Rattle.read.specs.Reads.{after}
 use Rattle.opcodes.specs.Formats.{format_of}
@@ -15,7 +16,6 @@ use Rattle.opcodes.specs.Operands.{Layout, layout_of}
 use Rattle.operands.specs.Signed.{signed_of}
 use Rattle.ordinary.specs.declared.Instruction.{Instruction}
 use Rattle.ordinary.specs.declared.Instruction.TheVariants as instruction
-use Rattle.ordinary.specs.declared.Step.TheVariants as step
 use Rattle.instruction.specs.Steps.{step_of}
 use Rattle.instruction.specs.Pictures.{Follows, StandsAt}
 use Rattle.instruction.specs.Entries.{entries_of}
@@ -25,11 +25,9 @@ use Rattle.lines.proofs.Exactly.{lines_exactly}
 use Rattle.records.specs.declared.SwitchEntry.{SwitchEntry}
 use Rattle.switches.specs.Entries.{entries_in}
 use Rattle.filling.proofs.Entries.{all_entries}
-use Rattle.jumps.specs.declared.Checked.TheVariants as checked
 use Rattle.jumps.specs.Jumps.{Jumps, check}
 use Rattle.jumps.proofs.Exactly.{good_exactly}
-use Rattle.bytecode.specs.declared.Run.TheVariants as run
-use Rattle.bytecode.specs.Decoding.{run_from, jump_words}
+use Rattle.bytecode.specs.Decoding.{counts, run_from, jump_words}
 use Rattle.bytecode.proofs.Accepted.{acceptance}
 use Rattle.walk.specs.Walk.{Node, Tiles, On, Along, Safe}
 use Rattle.walk.specs.Nodes.{node_of, nodes_of}
@@ -38,23 +36,23 @@ use Rattle.walk.proofs.Any.{any_walk}
 
 -- (a) consecutive lines up to the code's end
 module _ (code pool : List ℕ) where
-  each_decoded : (ls : Lines) (at : CodeOffset) → Consecutive code pool at ls → {l : Line} → Memᴰ l (list_of ls) → step_of code pool l.at ≡ step.Decoded l.instruction l.next
+  each_decoded : (ls : Lines) (at : CodeOffset) → Consecutive code pool at ls → {l : Line} → Memᴰ l (list_of ls) → step_of code pool l.at ≡ Ok (l.instruction, l.next)
   unfolding list_of
   each_decoded (Lines.line x rest) at f m =
       ⊎_elim
-      (λ e. subst (λ (l : Line). step_of code pool l.at ≡ step.Decoded l.instruction l.next) (sym e) (ap (step_of code pool) f.0 ∙ f.2))
+      (λ e. subst (λ (l : Line). step_of code pool l.at ≡ Ok (l.instruction, l.next)) (sym e) (ap (step_of code pool) f.0 ∙ f.2))
       (each_decoded rest x.next f.3) (Memᴰ.cases_cons m)
   each_decoded Lines.end at f m = absurd (Memᴰ.not-nil m)
-  each_decoded (Lines.stop n p) at f m = absurd (Memᴰ.not-nil m)
+  each_decoded (Lines.stop r) at f m = absurd (Memᴰ.not-nil m)
 
-  tiles : (ls : Lines) (at : CodeOffset) (k m k' m' : ℕ) → Consecutive code pool at ls → run_from k m ls ≡ run.Filled k' m' → Tiles at.0 (map (node_of code) (list_of ls)) (length code)
+  tiles : (ls : Lines) (at : CodeOffset) (k m k' m' : ℕ) → Consecutive code pool at ls → run_from k m ls ≡ Ok (counts k' m') → Tiles at.0 (map (node_of code) (list_of ls)) (length code)
   unfolding list_of run_from
   tiles (Lines.line l rest) at k m k' m' f e =
       let starts : l.at.0 ≡ at.0 = ap (λ (o : CodeOffset). o.0) f.0 in
       let within = step_within code pool at l.instruction l.next f.2 in
       (starts, omega (arith, within.longer), tiles rest l.next (k + 1) (m + entries_of l.instruction) k' m' f.3 e)
   tiles Lines.end at k m k' m' f e = f
-  tiles (Lines.stop n p) at k m k' m' f e = absurd (let z : ◌≡◌ {A = ℕ} 0 1 = cc in omega arith)
+  tiles (Lines.stop r) at k m k' m' f e = absurd (let z : ◌≡◌ {A = ℕ} 0 1 = cc in omega arith)
 
 -- (b) the entries of a tableswitch, by its picture
 abbrev Counted : Instruction → Type 0
@@ -73,7 +71,7 @@ counted kind at Layout.none i bytes p = absurd p
 abbrev pub jumps_at : List Node → List Jumps
 jumps_at nodes = map (λ (n : Node). n.jumps) nodes
 
-pub good_walks : (nodes : List Node) (end : ℕ) → Tiles 0 nodes end → check (jumps_at nodes) ≡ checked.Good → Safe nodes (Along nodes) end
+pub good_walks : (nodes : List Node) (end : ℕ) → Tiles 0 nodes end → check (jumps_at nodes) ≡ Ok tt → Safe nodes (Along nodes) end
 good_walks nodes end tiled good = any_walk nodes end tiled (Along nodes) lands
   where
     lands : (p q : ℤ) → Along nodes p q → On nodes q
@@ -88,7 +86,7 @@ module _ (code pool : List ℕ) where
   consecutive = (lines_exactly code pool (lines_of code pool)).0 refl
 
   module _ (l : Line) (listed : Memᴰ l (list_of (lines_of code pool))) where
-    decodes : step_of code pool l.at ≡ step.Decoded l.instruction l.next
+    decodes : step_of code pool l.at ≡ Ok (l.instruction, l.next)
     decodes = each_decoded code pool (lines_of code pool) (record { 0 = 0 }) consecutive listed
 
     stands : StandsAt code pool l.at l.instruction l.next

@@ -1,14 +1,12 @@
 -- The nodes of a code, from its instructions, the nodes that the words of two stores tell, and what decoding leaves in the
 -- stores.
-use Rattle.std.specs.Prelude.{ℕ, ◌+◌, true, false, List, map, ◌≡◌, ltb}
+use Rattle.std.specs.Prelude.{ℕ, ◌+◌, true, false, List, map, ◌≡◌, ltb, Ok}
 use Rattle.laws.specs.Listed.{listed}
 use Rattle.lines.specs.Lines.{Line, lines_of, list_of}
 use Rattle.records.specs.Records.{record_room, entry_room, index, record_at}
 use Rattle.lookup.specs.Lookup.{offset_of}
 use Rattle.jumps.specs.Stored.{stored_jumps}
-use Rattle.bytecode.specs.declared.Decoded.{Decoded}
-use Rattle.bytecode.specs.declared.Decoded.TheVariants as decoded
-use Rattle.bytecode.specs.Decoding.{line_jumps, decoding, records_after, entries_after}
+use Rattle.bytecode.specs.Decoding.{Decision, counts, line_jumps, decoding, records_after, entries_after}
 use Rattle.walk.specs.Walk.{Node}
 
 -- by demand 2's definitions: the instructions of the code, their lengths and their jumps
@@ -29,8 +27,8 @@ abbrev pub nodes_in : List ℕ → ℕ → List ℕ → ℕ → List Node
 nodes_in records count entries end = listed (node_in records count entries end) 0 count
 
 -- What `decode` promises, where it accepts: read off its contract in Promised.antt
-pub record Decodes (code pool records entries : List ℕ) (answer : Decoded) (records' entries' : List ℕ) (k m : ℕ) : Type 0 where
+pub record Decodes (code pool records entries : List ℕ) (answer : Decision) (records' entries' : List ℕ) (k m : ℕ) : Type 0 where
   pub answers : answer ≡ decoding code pool (record_room records) (entry_room entries)
   pub stores_records : records' ≡ records_after code pool records entries
   pub stores_entries : entries' ≡ entries_after code pool records entries
-  pub accepted : answer ≡ decoded.Accepted k m
+  pub accepted : answer ≡ Ok (counts k m)

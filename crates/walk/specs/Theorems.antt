@@ -1,14 +1,12 @@
 -- Demand 3. The proofs are in proofs/Any.antt, proofs/Accepted.antt and proofs/Stores.antt.
-use Rattle.std.specs.Prelude.{ℕ, ◌≤◌, ◌<◌, true, false, ◌&&◌, ◌≡◌, leb, ltb, ℤ, pos, ◌+ℤ◌, ◌-ℤ◌, length}
+use Rattle.std.specs.Prelude.{ℕ, ◌≤◌, ◌<◌, true, false, ◌&&◌, ◌≡◌, leb, ltb, ℤ, pos, ◌+ℤ◌, ◌-ℤ◌, length, Ok}
 use mathlib.Core.List.{List, [], ◌∷◌, Memᴰ}
 use Rattle.read.specs.declared.CodeOffset.{CodeOffset}
 use Rattle.ordinary.specs.declared.Instruction.TheVariants as instruction
 use Rattle.operands.specs.Signed.{signed_of}
 use Rattle.instruction.specs.Pictures.{StandsAt}
 use Rattle.lines.specs.Lines.{Line, lines_of, list_of}
-use Rattle.bytecode.specs.declared.Decoded.{Decoded}
-use Rattle.bytecode.specs.declared.Decoded.TheVariants as decoded
-use Rattle.bytecode.specs.Decoding.{jump_words, decoding}
+use Rattle.bytecode.specs.Decoding.{Decision, counts, jump_words, decoding}
 use Rattle.walk.specs.Walk.{Node, start, Tiles, On, Along, Safe}
 use Rattle.walk.specs.Nodes.{nodes_of, nodes_in, Decodes}
 
@@ -46,19 +44,19 @@ pub record Demand3 (code pool : List ℕ) : Type 0 where
 -- Every accepted code meets demand 3: proved as `accepted_meets`
 abbrev pub AcceptedMeetsDemand3 : Type 0
 AcceptedMeetsDemand3 =
-    (code pool : List ℕ) (room_of_records room_of_entries k m : ℕ) → decoding code pool room_of_records room_of_entries ≡ decoded.Accepted k m → Demand3 code pool
+    (code pool : List ℕ) (room_of_records room_of_entries k m : ℕ) → decoding code pool room_of_records room_of_entries ≡ Ok (counts k m) → Demand3 code pool
 
 -- Where a code is decoded, the words of the two stores tell the same nodes: proved as `stores_tell`
 abbrev pub StoresTell : Type 0
 StoresTell =
-    (code pool records entries : List ℕ) (answer : Decoded) (records' entries' : List ℕ) (k m : ℕ)
+    (code pool records entries : List ℕ) (answer : Decision) (records' entries' : List ℕ) (k m : ℕ)
     → Decodes code pool records entries answer records' entries' k m
     → nodes_in records' k entries' (length code) ≡ nodes_of code pool
 
 -- so who has only the stores can walk by them: proved as `stores_safe`
 abbrev pub StoresSafe : Type 0
 StoresSafe =
-    (code pool records entries : List ℕ) (answer : Decoded) (records' entries' : List ℕ) (k m : ℕ)
+    (code pool records entries : List ℕ) (answer : Decision) (records' entries' : List ℕ) (k m : ℕ)
     → Decodes code pool records entries answer records' entries' k m
     → Tiles 0 (nodes_in records' k entries' (length code)) (length code)
     × Safe (nodes_in records' k entries' (length code)) (Along (nodes_in records' k entries' (length code))) (length code)

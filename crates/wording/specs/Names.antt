@@ -2,7 +2,6 @@
 use Rattle.std.specs.Prelude.{ℕ, List, [], ◌∷◌, map, get_or}
 use Prim.Native.String.{String}
 use Rattle.laws.specs.Bytes.{ascii}
-use Rattle.phrases.specs.Texts.{table}
 
 -- a text, or another where it is empty
 unfoldable pub or_else : List ℕ → List ℕ → List ℕ
@@ -19,12 +18,6 @@ kind_names =
 -- the elements of newarray's arrays by their tags, 4 to 11
 unfoldable pub array_types : List String
 array_types = "" ∷ "" ∷ "" ∷ "" ∷ "boolean" ∷ "char" ∷ "float" ∷ "double" ∷ "byte" ∷ "short" ∷ "int" ∷ "long" ∷ []
-
-unfoldable pub kind_table : List ℕ
-kind_table = table (map ascii kind_names)
-
-unfoldable pub array_table : List ℕ
-array_table = table (map ascii array_types)
 
 unfoldable pub kind_name : ℕ → List ℕ
 kind_name tag = get_or (map ascii kind_names) tag []

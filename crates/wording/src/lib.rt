@@ -1,236 +1,167 @@
-// The operands of an instruction in words, by its format and its record. Each piece is written from an offset on, and the
-// answer is the offset after it.
-#![tactic(auto)]
+// The operands of an instruction in words, by its format and its record.
+#![tactic(auto, using(phrases::proofs::Wrote::pieces))]
 
-ghost use Rattle.std.specs.Prelude.{◌≡◌, ◌++◌, ◌+◌, ◌≤◌, length, get_or};
+ghost use Rattle.std.specs.Prelude.{◌≡◌, ◌++◌, ◌≤◌, length};
 ghost use Rattle.laws.specs.Bytes.{ascii};
-ghost use Rattle.phrases.specs.Puts.{Puts};
+ghost use Rattle.phrases.specs.Wrote.{HasRoom, Wrote};
 ghost use Rattle.phrases.specs.Texts.{item};
 ghost use Rattle.phrases.specs.Numbers.{decimal, signed};
-ghost use Rattle.wording.specs.Names.{kind_table, array_table, kind_name, array_type};
 ghost use Rattle.wording.specs.Operands.{target, counted, named, increment, indexed, followed, modified, otherwise, has_operands, operands_of};
 
 use opcodes::{Follow, Format, WideForm};
+use phrases::Line;
 use records::Record;
 
-// So many words there are: a jump is added to an offset modulo this number.
-const WORDS: usize = 0x1_0000_0000;
-
 // The names of the kinds of pool entries by their tags, each ended by a bar, as in the other tables.
-const KIND_NAMES: [u8; 159] = *b"|Utf8||Integer|Float|Long|Double|Class|String|Fieldref|\
+const KIND_NAMES: &[u8] = b"|Utf8||Integer|Float|Long|Double|Class|String|Fieldref|\
     Methodref|InterfaceMethodref|NameAndType|||MethodHandle|MethodType|Dynamic|InvokeDynamic|Module|\
     Package|";
 
 // The types of the elements of newarray's arrays by their tags.
-const ARRAY_TYPES: [u8; 50] = *b"||||boolean|char|float|double|byte|short|int|long|";
-
-fn kind_names() -> [u8; 159]
-    ensures { result ≡ kind_table }
-{
-    KIND_NAMES
-}
-
-fn array_types() -> [u8; 50]
-    ensures { result ≡ array_table }
-{
-    ARRAY_TYPES
-}
+const ARRAY_TYPES: &[u8] = b"||||boolean|char|float|double|byte|short|int|long|";
 
 // The text with the number n in a table, or the number itself where there is none.
-fn put_name(texts: &[u8], n: usize, out: &mut [u8], at: usize) -> usize
-    requires { (length (item n texts.now) ≤ 20) × (at + 20 ≤ length out.old) }
-    ensures { Puts 20 out.old at (named (item n texts.now) n) out.new result }
+#[tactic(auto, using(phrases::proofs::Wrote::pieces, crate::proofs::Laws::no_text, crate::proofs::Laws::some_text))]
+fn put_name(line: &mut Line<'_>, texts: &[u8], n: usize)
+    requires { (length (item n texts.now) ≤ 20) × HasRoom 20 line.old }
+    ensures { Wrote 20 line.old (named (item n texts.now) n) line.new }
 {
-    let end = phrases::put_item(texts, n, out, at);
-    if end == at {
-        return phrases::put_decimal(n, out, at);
+    let start = line.length;
+    line.item(texts, n);
+    if line.length == start {
+        line.decimal(n);
     }
-    end
 }
 
-fn put_kind_name(tag: u8, out: &mut [u8], at: usize) -> usize
-    requires { at + 20 ≤ length out.old }
-    ensures { Puts 20 out.old at (named (kind_name tag) tag) out.new result }
+#[tactic(auto, using(phrases::proofs::Wrote::pieces), unfolding(crate::specs::Operands::counted))]
+pub fn put_counted(line: &mut Line<'_>, n: usize, one: &[u8], many: &[u8])
+    requires { (length one.now ≤ 20) × (length many.now ≤ 20) × HasRoom 40 line.old }
+    ensures { Wrote 40 line.old (counted n one.now many.now) line.new }
 {
-    let table = kind_names();
-    put_name(&table, tag as usize, out, at)
-}
-
-fn put_array_type(tag: u32, out: &mut [u8], at: usize) -> usize
-    requires { at + 20 ≤ length out.old }
-    ensures { Puts 20 out.old at (named (array_type tag) tag) out.new result }
-{
-    let table = array_types();
-    put_name(&table, tag as usize, out, at)
-}
-
-pub fn put_counted(n: usize, one: &[u8], many: &[u8], out: &mut [u8], at: usize) -> usize
-    requires { (length one.now ≤ 20) × (length many.now ≤ 20) × (at + 40 ≤ length out.old) }
-    ensures { Puts 40 out.old at (counted n one.now many.now) out.new result }
-{
-    let end = phrases::put_decimal(n, out, at);
-    if n == 1 {
-        return phrases::put_text(one, out, end);
-    }
-    phrases::put_text(many, out, end)
+    line.decimal(n);
+    line.text(if n == 1 { one } else { many });
 }
 
 // The offset that a jump leads to.
-pub fn put_target(offset: u32, jump: u32, out: &mut [u8], at: usize) -> usize
-    requires { at + 20 ≤ length out.old }
-    ensures { Puts 20 out.old at (decimal (target offset jump)) out.new result }
+pub fn put_target(line: &mut Line<'_>, offset: u32, jump: u32)
+    requires { HasRoom 20 line.old }
+    ensures { Wrote 20 line.old (decimal (target offset jump)) line.new }
 {
-    let sum = offset as usize + jump as usize;
-    phrases::put_decimal(sum % WORDS, out, at)
+    line.decimal(offset.wrapping_add(jump) as usize);
 }
 
-// The tag of the pool's entry, 0 where there is none.
-fn tag_of(pool: &[u8], index: usize) -> u8
-    ensures { result ≡ get_or pool.now index 0 }
+#[tactic(auto, using(phrases::proofs::Wrote::pieces, crate::proofs::Tables::kind_named, crate::proofs::Tables::kind_short))]
+fn put_index(line: &mut Line<'_>, pool: &[u8], index: u32)
+    requires { HasRoom 42 line.old }
+    ensures { Wrote 42 line.old (indexed pool.now index) line.new }
 {
-    if pool.len() <= index {
-        return 0;
-    }
-    pool[index]
+    let tag = pool.get(index as usize).copied().unwrap_or(0);
+    line.text(b"#");
+    line.decimal(index as usize);
+    line.text(b" ");
+    put_name(line, KIND_NAMES, tag as usize);
 }
 
-fn put_index(pool: &[u8], index: u32, out: &mut [u8], at: usize) -> usize
-    requires { at + 42 ≤ length out.old }
-    ensures { Puts 42 out.old at (indexed pool.now index) out.new result }
+fn put_increment(line: &mut Line<'_>, local: u32, by: u32)
+    requires { HasRoom 43 line.old }
+    ensures { Wrote 43 line.old (increment local by) line.new }
 {
-    let tag = tag_of(pool, index as usize);
-    let number = phrases::put_text(b"#", out, at);
-    let end = phrases::put_decimal(index as usize, out, number);
-    let name = phrases::put_text(b" ", out, end);
-    put_kind_name(tag, out, name)
+    line.decimal(local as usize);
+    line.text(b", ");
+    line.signed(by);
 }
 
-fn put_increment(local: u32, by: u32, out: &mut [u8], at: usize) -> usize
-    requires { at + 43 ≤ length out.old }
-    ensures { Puts 43 out.old at (increment local by) out.new result }
-{
-    let end = phrases::put_decimal(local as usize, out, at);
-    let next = phrases::put_text(b", ", out, end);
-    phrases::put_signed(by, out, next)
-}
-
-fn put_count(count: u32, out: &mut [u8], at: usize) -> usize
-    requires { at + 22 ≤ length out.old }
-    ensures { Puts 22 out.old at (ascii ", " ++ decimal count) out.new result }
-{
-    let next = phrases::put_text(b", ", out, at);
-    phrases::put_decimal(count as usize, out, next)
-}
-
-fn put_followed(after: Follow, record: Record, out: &mut [u8], at: usize) -> usize
-    requires { at + 22 ≤ length out.old }
-    ensures { Puts 22 out.old at (followed after «record») out.new result }
+#[tactic(auto, using(phrases::proofs::Wrote::pieces), unfolding(crate::specs::Operands::followed))]
+fn put_followed(line: &mut Line<'_>, after: Follow, record: Record)
+    requires { HasRoom 22 line.old }
+    ensures { Wrote 22 line.old (followed after «record») line.new }
 {
     match after {
-        Follow::Nothing => at,
-        Follow::Count => put_count(record.b, out, at),
-        Follow::CountAndZero => put_count(record.b, out, at),
-        Follow::TwoZeros => at,
+        Follow::Nothing | Follow::TwoZeros => {}
+        Follow::Count | Follow::CountAndZero => {
+            line.text(b", ");
+            line.decimal(record.b as usize);
+        }
     }
 }
 
-fn put_otherwise(record: Record, out: &mut [u8], at: usize) -> usize
-    requires { at + 30 ≤ length out.old }
-    ensures { Puts 30 out.old at (otherwise «record») out.new result }
+fn put_otherwise(line: &mut Line<'_>, record: Record)
+    requires { HasRoom 30 line.old }
+    ensures { Wrote 30 line.old (otherwise «record») line.new }
 {
-    let next = phrases::put_text(b", default ", out, at);
-    put_target(record.offset, record.a, out, next)
+    line.text(b", default ");
+    put_target(line, record.offset, record.a);
 }
 
 // The instruction that wide modifies.
-fn put_modified(form: WideForm, record: Record, out: &mut [u8], at: usize) -> usize
-    requires { at + 59 ≤ length out.old }
-    ensures { Puts 59 out.old at (modified form «record») out.new result }
+#[tactic(auto, using(phrases::proofs::Wrote::pieces), unfolding(crate::specs::Operands::modified))]
+fn put_modified(line: &mut Line<'_>, form: WideForm, record: Record)
+    requires { HasRoom 59 line.old }
+    ensures { Wrote 59 line.old (modified form «record») line.new }
 {
     match form {
         WideForm::Local => {
-            let end = mnemonics::put_kind(record.kind, out, at);
-            let next = phrases::put_text(b" ", out, end);
-            phrases::put_decimal(record.a as usize, out, next)
+            mnemonics::put_kind(line, record.kind);
+            line.text(b" ");
+            line.decimal(record.a as usize);
         }
         WideForm::Increment => {
-            let end = mnemonics::put_kind(record.kind, out, at);
-            let next = phrases::put_text(b" ", out, end);
-            put_increment(record.a, record.b, out, next)
+            mnemonics::put_kind(line, record.kind);
+            line.text(b" ");
+            put_increment(line, record.a, record.b);
         }
-        WideForm::NoInstruction => phrases::put_decimal(record.kind as usize, out, at),
+        WideForm::NoInstruction => line.decimal(record.kind as usize),
     }
 }
 
 // The keys of a tableswitch, and where any other leads.
-fn put_range(record: Record, out: &mut [u8], at: usize) -> usize
-    requires { at + 76 ≤ length out.old }
-    ensures { Puts 76 out.old at (signed «record».b ++ ascii " to " ++ signed «record».c ++ otherwise «record») out.new result }
+fn put_range(line: &mut Line<'_>, record: Record)
+    requires { HasRoom 76 line.old }
+    ensures { Wrote 76 line.old (signed «record».b ++ ascii " to " ++ signed «record».c ++ otherwise «record») line.new }
 {
-    let end = phrases::put_signed(record.b, out, at);
-    let next = phrases::put_text(b" to ", out, end);
-    let last = phrases::put_signed(record.c, out, next);
-    put_otherwise(record, out, last)
+    line.signed(record.b);
+    line.text(b" to ");
+    line.signed(record.c);
+    put_otherwise(line, record);
 }
 
-fn put_pairs(record: Record, out: &mut [u8], at: usize) -> usize
-    requires { at + 70 ≤ length out.old }
-    ensures { Puts 70 out.old at (counted «record».b (ascii " pair") (ascii " pairs") ++ otherwise «record») out.new result }
+fn put_pairs(line: &mut Line<'_>, record: Record)
+    requires { HasRoom 70 line.old }
+    ensures { Wrote 70 line.old (counted «record».b (ascii " pair") (ascii " pairs") ++ otherwise «record») line.new }
 {
-    let end = put_counted(record.b as usize, b" pair", b" pairs", out, at);
-    put_otherwise(record, out, end)
-}
-
-fn put_entry_index(pool: &[u8], after: Follow, record: Record, out: &mut [u8], at: usize) -> usize
-    requires { at + 64 ≤ length out.old }
-    ensures { Puts 64 out.old at (indexed pool.now «record».a ++ followed after «record») out.new result }
-{
-    let end = put_index(pool, record.a, out, at);
-    put_followed(after, record, out, end)
+    put_counted(line, record.b as usize, b" pair", b" pairs");
+    put_otherwise(line, record);
 }
 
 // The operands of an instruction, by its format.
-pub fn put_operands(format: Format, pool: &[u8], record: Record, out: &mut [u8], at: usize) -> usize
-    requires { at + 76 ≤ length out.old }
-    ensures { Puts 76 out.old at (operands_of format pool.now «record») out.new result }
+#[tactic(auto, using(phrases::proofs::Wrote::pieces, crate::proofs::Tables::array_named, crate::proofs::Tables::array_short), unfolding(crate::specs::Operands::operands_of))]
+pub fn put_operands(line: &mut Line<'_>, format: Format, pool: &[u8], record: Record)
+    requires { HasRoom 76 line.old }
+    ensures { Wrote 76 line.old (operands_of format pool.now «record») line.new }
 {
     match format {
-        Format::Plain => at,
-        Format::SignedByte => phrases::put_signed(record.a, out, at),
-        Format::SignedShort => phrases::put_signed(record.a, out, at),
-        Format::Local => phrases::put_decimal(record.a as usize, out, at),
-        Format::ImpliedLocal(_) => at,
-        Format::Increment => put_increment(record.a, record.b, out, at),
-        Format::Jump2 => put_target(record.offset, record.a, out, at),
-        Format::Jump4 => put_target(record.offset, record.a, out, at),
-        Format::Index1(_) => put_index(pool, record.a, out, at),
-        Format::Index2(_, after) => put_entry_index(pool, after, record, out, at),
-        Format::ArrayTag => put_array_type(record.a, out, at),
-        Format::Wide => put_modified(opcodes::wide_form_of(record.kind), record, out, at),
-        Format::TableSwitch => put_range(record, out, at),
-        Format::LookupSwitch => put_pairs(record, out, at),
-        Format::NoInstruction => at,
+        Format::Plain | Format::ImpliedLocal(_) | Format::NoInstruction => {}
+        Format::SignedByte | Format::SignedShort => line.signed(record.a),
+        Format::Local => line.decimal(record.a as usize),
+        Format::Increment => put_increment(line, record.a, record.b),
+        Format::Jump2 | Format::Jump4 => put_target(line, record.offset, record.a),
+        Format::Index1(_) => put_index(line, pool, record.a),
+        Format::Index2(_, after) => {
+            put_index(line, pool, record.a);
+            put_followed(line, after, record);
+        }
+        Format::ArrayTag => put_name(line, ARRAY_TYPES, record.a as usize),
+        Format::Wide => put_modified(line, opcodes::wide_form_of(record.kind), record),
+        Format::TableSwitch => put_range(line, record),
+        Format::LookupSwitch => put_pairs(line, record),
     }
 }
 
 pub fn has_operands(format: Format) -> bool
     ensures { result ≡ has_operands format }
 {
-    match format {
-        Format::Plain => false,
-        Format::SignedByte => true,
-        Format::SignedShort => true,
-        Format::Local => true,
-        Format::ImpliedLocal(_) => false,
-        Format::Increment => true,
-        Format::Jump2 => true,
-        Format::Jump4 => true,
-        Format::Index1(_) => true,
-        Format::Index2(_, _) => true,
-        Format::ArrayTag => true,
-        Format::Wide => true,
-        Format::TableSwitch => true,
-        Format::LookupSwitch => true,
-        Format::NoInstruction => false,
-    }
+    !matches!(
+        format,
+        Format::Plain | Format::ImpliedLocal(_) | Format::NoInstruction
+    )
 }

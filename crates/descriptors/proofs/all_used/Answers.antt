@@ -1,14 +1,9 @@
-use mathlib.Core.Path.{sym, ap, ◌∙◌}
-use Rattle.descriptors.specs.Texts.{whole}
-use Rattle.descriptors.proofs.Laws.{some_left, none_left}
+use Rattle.std.proofs.Common.{rules}
+use Rattle.descriptors.proofs.Laws.{error_whole, left_whole}
 use Rattle.descriptors.proofs.all_used.Goals as goal
 
+pub returns-in_err-read : goal.returns-in_err-read
+returns-in_err-read g c = error_whole _ c.in_err-read.was (search rules)
+
 pub returns-then-used-length : goal.returns-then-used-length
-returns-then-used-length c = sym (ap (whole _) c.in-Parsed.is ∙ some_left _ _ _ c.if-used-length.true)
-
-pub returns-else-used-length : goal.returns-else-used-length
-returns-else-used-length c = sym (ap (whole _) c.in-Parsed.is ∙ none_left _ _ _ c.if-used-length.false)
-
-pub returns-in-Refused : goal.returns-in-Refused
-unfolding whole
-returns-in-Refused c = sym (ap (whole _) c.in-Refused.is)
+returns-then-used-length g c = left_whole _ c.in_ok-read.was c.if-used-length.true c.at.ensures

@@ -1,4 +1,3 @@
-use native.Mathlib.Omega.{arith}
 use Rattle.identifier.proofs.Laws.{identifier_written}
 use Rattle.identifier.proofs.write_identifier.Goals as goal
 

@@ -1,5 +1,4 @@
--- The loop's invariant is that what is left decides as the whole.
-use Prim.Native.Nat.{◌-◌}
+-- What is left decides as the whole.
 use Rattle.lookup.specs.Lookup.{offsets_of}
 use Rattle.jumps.specs.Jumps.{words_check}
 use Rattle.jumps.specs.Stored.{entry_jump}
@@ -7,7 +6,4 @@ use Rattle.jumps.proofs.Laws.{Left}
 use Rattle.jumps.proofs.check_entries.Given as goal
 
 abbrev pub invariant-loop-i : goal.invariant-loop-i
-invariant-loop-i l = Left (words_check (offsets_of l.records.now l.count) l.at) (entry_jump l.entries l.first) 1 l.number l.i
-
-abbrev pub decreases-loop-i : goal.decreases-loop-i
-decreases-loop-i l = l.number - l.i
+invariant-loop-i l = Left (words_check (offsets_of l.starts.records.now l.starts.count) l.at) (entry_jump l.entries l.first) 1 l.number l.i

@@ -1,23 +1,17 @@
-use mathlib.Core.Path.{sym, ◌∙◌}
-use native.Mathlib.Omega.{arith}
-use Rattle.lookup.proofs.First.{fewer}
-use Rattle.lookup.proofs.Rising.{rises_sorted}
-use Rattle.lookup.proofs.Answers.{lookup_short, lookup_falling, lookup_nothing, lookup_found}
+use mathlib.Core.Path.{ap₂}
+use Rattle.std.proofs.Common.{◌≡◌, ◌∙◌, ap, Ok, Err, rules}
+use Rattle.lookup.specs.Lookup.{lookup_of}
+use Rattle.lookup.proofs.Answers.{lookup_sorted, lookup_refused}
 use Rattle.lookup.proofs.find.Goals as goal
 
-pub returns-then-records-count : goal.returns-then-records-count
-returns-then-records-count c = lookup_short _ _ _ c.if-records-count.true
-
-pub search-found-requires : goal.search-found-requires
-search-found-requires c = (fewer (rises_sorted _ _ c.if-records-count.false (sym c.is_rising.ensures ∙ c.if-is_rising.true)) (omega arith), omega arith)
-
-pub returns-then-found : goal.returns-then-found
-returns-then-found c =
-    lookup_nothing _ _ _ c.if-records-count.false c.is_rising.ensures c.if-is_rising.true (omega arith) c.search-found.ensures c.if-found.true
-
-pub returns-then-is_rising : goal.returns-then-is_rising
-returns-then-is_rising c =
-    lookup_found _ _ _ c.if-records-count.false c.is_rising.ensures c.if-is_rising.true (omega arith) c.search-found.ensures c.if-found.false
-
 pub returns : goal.returns
-returns c = lookup_falling _ _ _ c.if-records-count.false c.is_rising.ensures c.if-is_rising.false
+returns c =
+    let run = c.in_ok-new.field-0 in
+    let same = c.in_ok-new.ensures in
+    ap (λ found. Ok found) c.index_of.ensures ∙ lookup_sorted run.records.now run.count c.args.offset run.sorted ∙ ap₂ (λ records count. lookup_of records count c.args.offset) same.0 same.1
+
+pub returns-in_err-new : goal.returns-in_err-new
+returns-in_err-new c =
+    let refusal = c.in_err-new.ensures in
+    let is : c.from_residual.result ≡ Err c.in_err-new.field-0.0 = search rules in
+    is ∙ ap (λ r. Err r) refusal.0 ∙ lookup_refused _ _ c.args.offset refusal.1

@@ -1,16 +1,7 @@
-use native.Mathlib.Numerals.{towards_suc}
-use native.Mathlib.Omega.{arith}
-use lib.ListN.{length-set}
+use Rattle.std.proofs.Common.{arith, ◌*◌}
+use Rattle.store.proofs.Records.{part_replaced}
+use Rattle.methods.specs.Texts.{words}
 use Rattle.methods.proofs.put_part.Goals as goal
 
-pub bounds-store-at-2 : goal.bounds-store-at-2
-bounds-store-at-2 c = simp length-set (omega arith)
-
-pub bounds-store-at-3 : goal.bounds-store-at-3
-bounds-store-at-3 c = simp length-set (omega arith)
-
-pub bounds-store-at-4 : goal.bounds-store-at-4
-bounds-store-at-4 c = simp length-set (omega arith)
-
 pub returns : goal.returns
-returns c = simp towards_suc
+returns c = part_replaced (c.args.index * 4) _ _ _ (words c.args.part) (omega (arith, c.requires)) (omega arith) c.copy_from_slice.ensures.after

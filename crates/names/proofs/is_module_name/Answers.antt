@@ -1,39 +1,17 @@
-use mathlib.Core.Path.{sym, ◌∙◌}
-use borrow.Author.Rules.{rules}
-use borrow.Author.Tests.{lt-leb, le-leb}
-use Rattle.laws.proofs.Bools.{and_stops, and_goes_on}
-use Rattle.laws.proofs.Lists.{done}
-use Rattle.names.specs.Names.{is_module_name, module_rest}
-use Rattle.names.proofs.Laws.{escaped_at, opens_at, plain_at}
+use Rattle.std.proofs.Common.{sym, ◌∙◌}
+use Rattle.names.proofs.Laws.{pair_there, opens_there, bad_plain_there, plain_there}
 use Rattle.names.proofs.is_module_name.Goals as goal
-
-pub returns-then-name-gt-TEXT_LIMIT : goal.returns-then-name-gt-TEXT_LIMIT
-unfolding is_module_name
-returns-then-name-gt-TEXT_LIMIT c = rw (lt-leb _ _ c.if-name-gt-TEXT_LIMIT.true)
-
-pub loop-i-init : goal.loop-i-init
-unfolding is_module_name
-loop-i-init c = (search rules, rw (le-leb _ _ c.if-name-gt-TEXT_LIMIT.false))
-
-pub returns-then-not-is_escapable : goal.returns-then-not-is_escapable
-returns-then-not-is_escapable c =
-    sym (escaped_at _ _ c.loop-i-test.true c.if-escaped.true ∙ and_stops c.is_escapable.ensures _ c.if-not-is_escapable.true) ∙ c.loop-i.invariant.1
-
-pub loop-i-preserved-then-escaped : goal.loop-i-preserved-then-escaped
-loop-i-preserved-then-escaped c =
-    (search rules, sym (escaped_at _ _ c.loop-i-test.true c.if-escaped.true ∙ and_goes_on c.is_escapable.ensures _ c.if-not-is_escapable.false) ∙ c.loop-i.invariant.1)
-
-pub loop-i-preserved-then-b-eq92 : goal.loop-i-preserved-then-b-eq92
-loop-i-preserved-then-b-eq92 c = (search rules, sym (opens_at _ _ c.loop-i-test.true c.if-escaped.false c.if-b-eq92.true) ∙ c.loop-i.invariant.1)
+use Rattle.names.proofs.is_module_name.Goals.{then-escaped+else-not-is_escapable, else-escaped+then-b-eq92, else-escaped+else-b-eq92+else-not-is_plain_module_byte}
 
 pub returns-then-not-is_plain_module_byte : goal.returns-then-not-is_plain_module_byte
 returns-then-not-is_plain_module_byte c =
-    sym (plain_at _ _ c.loop-i-test.true c.if-escaped.false c.if-b-eq92.false ∙ and_stops c.is_plain_module_byte.ensures _ c.if-not-is_plain_module_byte.true) ∙ c.loop-i.invariant.1
+    bad_plain_there _ _ _ c.loop-b.invariant c.loop-b-test.true c.if-escaped.false c.if-b-eq92.false (sym c.is_plain_module_byte.ensures ∙ c.if-not-is_plain_module_byte.true)
 
-pub loop-i-preserved : goal.loop-i-preserved
-loop-i-preserved c =
-    (search rules, sym (plain_at _ _ c.loop-i-test.true c.if-escaped.false c.if-b-eq92.false ∙ and_goes_on c.is_plain_module_byte.ensures _ c.if-not-is_plain_module_byte.false) ∙ c.loop-i.invariant.1)
-
-pub returns : goal.returns
-unfolding module_rest
-returns c = sym (done (module_rest _) _ _ c.loop-i-test.false) ∙ c.loop-i.invariant.1
+pub loop-b-preserved : goal.loop-b-preserved
+loop-b-preserved c =
+    let inside = c.loop-b-test.true in
+    elim c.if-escaped.branch [
+      | then-escaped+else-not-is_escapable w ↦ rw w.escaped-is (pair_there _ _ _ c.loop-b.invariant inside w.if-escaped.true (sym w.is_escapable.ensures ∙ w.if-not-is_escapable.false))
+      | else-escaped+then-b-eq92 w ↦ rw w.escaped-is (opens_there _ _ _ c.loop-b.invariant inside w.if-escaped.false w.if-b-eq92.true)
+      | else-escaped+else-b-eq92+else-not-is_plain_module_byte w ↦ rw w.escaped-is (plain_there _ _ _ c.loop-b.invariant inside w.if-escaped.false w.if-b-eq92.false (sym w.is_plain_module_byte.ensures ∙ w.if-not-is_plain_module_byte.false))
+    ]

@@ -1,22 +1,15 @@
-use mathlib.Core.Path.{refl, sym, ◌∙◌}
-use borrow.Author.Rules.{rules}
-use Rattle.laws.specs.Bytes.{every}
-use Rattle.laws.proofs.Bools.{and_stops, and_goes_on}
-use Rattle.laws.proofs.Lists.{done, every_at}
-use Rattle.names.proofs.Laws.{bad_text, good_text}
+use Rattle.std.proofs.Common.{rules, sym, ◌∙◌}
+use Rattle.std.proofs.lemmas.Iterator.{YieldsList-from_slice}
+use Rattle.std.proofs.lemmas.Iterator.Search.{all_from_yields_List}
+use borrow.Author.Tests.{tests}
+use Rattle.names.specs.Names.{name_byte}
+use Rattle.names.proofs.Laws.{some_bytes, no_bytes}
 use Rattle.names.proofs.is_name_text.Goals as goal
 
-pub loop-i-init : goal.loop-i-init
-loop-i-init c = (search rules, refl)
+pub returns-then-not-is_empty : goal.returns-then-not-is_empty
+returns-then-not-is_empty c =
+    all_from_yields_List (name_byte c.args.in_method) _ _ _ c.all.ensures.ran (YieldsList-from_slice c.args.text.now cc) (λ x b q k. search (rules, tests))
+    ∙ some_bytes _ _ (sym c.is_empty.ensures ∙ c.if-not-is_empty.true)
 
-pub returns-then-not-is_name_byte : goal.returns-then-not-is_name_byte
-returns-then-not-is_name_byte c =
-    sym (bad_text _ _ (sym c.loop-i.invariant.1 ∙ every_at _ _ _ c.loop-i-test.true ∙ and_stops c.is_name_byte.ensures _ c.if-not-is_name_byte.true))
-
-pub loop-i-preserved : goal.loop-i-preserved
-loop-i-preserved c =
-    (search rules, sym (every_at _ _ _ c.loop-i-test.true ∙ and_goes_on c.is_name_byte.ensures _ c.if-not-is_name_byte.false) ∙ c.loop-i.invariant.1)
-
-pub returns : goal.returns
-unfolding every
-returns c = sym (good_text _ _ (sym c.loop-i.invariant.1 ∙ done (every _) _ _ c.loop-i-test.false))
+pub returns-else-not-is_empty : goal.returns-else-not-is_empty
+returns-else-not-is_empty c = rw c.if-not-is_empty.false (no_bytes _ _ (sym c.is_empty.ensures ∙ c.if-not-is_empty.false))

@@ -1,14 +1,12 @@
-use mathlib.Core.Path.{refl}
-use borrow.Author.Rules.{rules}
-use lib.ListN.{length-set}
-use Rattle.output.proofs.Writing.{run_more, run_all}
+use Rattle.std.proofs.Common.{◌-◌, ◌+◌, ◌∙◌, ap, replicate, arith}
+use Rattle.std.proofs.lemmas.List.{length-replicate}
+use Rattle.output.proofs.Writing.{part_replaced, length_part}
 use Rattle.output.proofs.put_run.Goals as goal
 
-pub loop-i-init : goal.loop-i-init
-loop-i-init c = (search rules, refl, refl)
-
-pub loop-i-preserved : goal.loop-i-preserved
-loop-i-preserved c = (search rules, simp length-set (search rules), run_more _ _ _ _ _ c.loop-i.invariant.2)
-
 pub returns : goal.returns
-returns c = run_all _ _ _ _ _ c.loop-i.invariant.2 _ c.loop-i.invariant.0 c.loop-i-test.false
+returns c =
+    let filled = c.fill.ensures.after (λ y same. same) in
+    let bytes = replicate c.args.count c.args.byte in
+    let long = length-replicate c.args.count c.args.byte in
+    part_replaced c.args.at (c.args.at + c.args.count - c.args.at) _ _ bytes (omega (arith, c.requires)) (omega (arith, long))
+    (filled ∙ ap (λ n. replicate n c.args.byte) (length_part c.args.at c.args.count _ c.requires))

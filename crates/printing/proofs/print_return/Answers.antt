@@ -1,16 +1,7 @@
-use Rattle.output.proofs.Writing.{refused_after}
-use Rattle.printing.proofs.Laws.{print_over, return_is_return, entry_part}
+use Rattle.printing.proofs.Laws.{text_over}
 use Rattle.printing.proofs.print_return.Goals as goal
 
-pub returns-then-text-gt-TEXT_LIMIT : goal.returns-then-text-gt-TEXT_LIMIT
-returns-then-text-gt-TEXT_LIMIT c =
-    let r = refused_after _ _ _ _ _ (print_over c.args.text.now _ _ _ c.if-text-gt-TEXT_LIMIT.true) in
-    record { answers = r.0; writes = r.1 }
-
-pub print_part-requires : goal.print_part-requires
-print_part-requires c = (c.if-text-gt-TEXT_LIMIT.false, return_is_return c.args.text.now c.args.part _ c.is_return_part.ensures)
-
-pub returns : goal.returns
-returns c =
-    let r = entry_part c.args.text.now _ c.args.out.now c.is_return_part.ensures _ _ (c.print_part.ensures.answers, c.print_part.ensures.writes) in
+pub returns-in_err-new : goal.returns-in_err-new
+returns-in_err-new c =
+    let r = text_over _ _ _ _ _ _ c.from_residual.ensures.1 c.in_err-new.ensures in
     record { answers = r.0; writes = r.1 }

@@ -1,4 +1,3 @@
-use mathlib.Core.Path.{◌∙◌}
 use native.Mathlib.Omega.{arith}
 use lib.ListN.{length-set}
 use Rattle.printing.proofs.Laws.{some_length, object_length, name_copied, return_part, part_byte, part_range, letter_written, object_written}
@@ -23,9 +22,6 @@ put-requires c =
 
 pub bounds-out-letter_at-then-part : goal.bounds-out-letter_at-then-part
 bounds-out-letter_at-then-part c = omega (arith, object_length c.args.part c.if-part.true, c.requires.1, c.put_run.auto, simp length-set at c.put.auto.out)
-
-pub shape_of-out-then-part : goal.shape_of-out-then-part
-shape_of-out-then-part c = simp length-set ((simp length-set at c.put.auto.out) ∙ c.put_run.auto.out)
 
 pub returns-then-part : goal.returns-then-part
 returns-then-part c =

@@ -1,6 +1,0 @@
-use mathlib.Core.Path.{ap, ◌∙◌}
-use Rattle.station.specs.Station.{field_parts}
-use Rattle.station.proofs.nk_field_prefix.Goals as goal
-
-pub returns : goal.returns
-returns c = c.field_parts.ensures ∙ ap field_parts c.field_prefix.ensures
