@@ -61,6 +61,7 @@ fn fill(
     ensures fills_records { records.new ≡ records_from 0 0 (fitted code.now pool.now (record_room records.old) (entry_room entries.old)) records.old }
     ensures fills_entries { entries.new ≡ entries_from code.now 0 (fitted code.now pool.now (record_room records.old) (entry_room entries.old)) entries.old }
 {
+    // Flat words, as C lends them.
     let record_room = records.len() / RECORD_WORDS;
     let entry_room = entries.len() / ENTRY_WORDS;
     let mut at = 0;

@@ -35,6 +35,7 @@ pub fn name_end(text: &[u8], start: usize) -> Result<NameEnd, Refusal<usize>>
     // Whether the segment that is being read has a byte yet.
     let mut started = false;
     let end = text.len().max(start);
+    // By index: a place is answered, and the start may lie past the end.
     for at in start..end {
         let b = text[at];
         if is_separator(b) {

@@ -21,6 +21,7 @@ pub struct FieldDescriptor {
 }
 
 impl FieldDescriptor {
+    // A limit, no kind.
     pub const MAX_DIMENSIONS: u32 = 255;
 
     pub fn base(dimensions: u32, letter: u32) -> Self
@@ -101,6 +102,7 @@ pub fn field_at(text: Text, start: usize) -> Field
 {
     let mut dimensions = 0;
     let end = text.bytes.len().max(start);
+    // By index: a place is answered, and the start may lie past the end.
     for at in start..end {
         if text.bytes[at] != b'[' {
             return type_at(text, dimensions, at);

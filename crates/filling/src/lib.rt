@@ -23,7 +23,8 @@ pub fn entries_of(instruction: Instruction) -> u32
     }
 }
 
-// The record of an instruction at an offset, whose entries have their indexes from the first on. Both fit their words.
+// The record of an instruction at an offset, whose entries have their indexes from the first on. Both fit their words, which a
+// type beside `CodeOffset` would say no plainer.
 pub fn record_of(at: CodeOffset, first: RecordIndex, instruction: Instruction) -> Record
     requires { (at.0 < 2 ^ 32) × (first.0 < 2 ^ 32) }
     ensures { result ≡ record_of at first instruction }
@@ -86,6 +87,7 @@ pub fn put_entries(code: &[u8], instruction: Instruction, entries: &mut [u32], f
     requires { EntriesInside code.now instruction × (first.0 + entries_of instruction ≤ entry_room entries.old) }
     ensures { entries.new ≡ sets entries.old (first.0 * entry_words) (all_entry_words (entries_in code.now instruction)) }
 {
+    // By index, which the key of a table and the place of an entry are counted from.
     for i in 0..entries_of(instruction) as usize {
         records::put_entry(
             entries,

@@ -82,6 +82,7 @@ fn check_entries(
     requires { (at.0 < 2 ^ 32) × (first.0 + number ≤ entry_room entries.now) }
     ensures { result ≡ words_check (offsets_of starts.entry.records.now starts.entry.count) at 1 (listed (entry_jump entries.now first) 0 number) }
 {
+    // By index, as an entry is named by its switch.
     for i in 0..number {
         let entry = records::entry_at(entries, RecordIndex(first.0 + i as usize));
         check_jump(starts, at, entry.jump, i + 1)?;
@@ -129,6 +130,7 @@ pub fn check_jumps(sorted: SortedRecords<'_>, entries: &[u32]) -> Result<(), Fai
     requires { AllHeld sorted.records.now sorted.count entries.now }
     ensures { result ≡ check (jumps_in sorted.entry.records.now sorted.entry.count entries.now) }
 {
+    // By index, as a record is named on paper: over rows each would be taken apart here again.
     for i in 0..sorted.count {
         let stored = records::record_at(sorted.records, RecordIndex(i));
         check_record(sorted, entries, stored)?;

@@ -135,7 +135,8 @@ fn put_refusal(line: &mut Line<'_>, number: u32, place: usize, second: u32)
     put_number(line, b", second number ", second as usize);
 }
 
-// The room that every line must find, else 33 at 0. Apart from the line, since no clause lends a slice in an `Ok`.
+// The room that every line must find, else 33 at 0. Apart from the making of the `Line`: no
+// clause can say what a slice that is lent within an `Ok` holds in the end.
 fn check_room(out: &[u8]) -> Result<(), Refusal<usize>>
     ensures { MatchResult result (λ _. line_room ≤ length out.now) (λ r. (r ≡ refused TooShort 0) × (length out.now < line_room)) }
 {

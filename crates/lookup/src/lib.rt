@@ -12,6 +12,7 @@ use refusals::{Reason, Refusal};
 
 // The first so many records of a store, of which each offset is below the next. `new` looks at them all; who has filled
 // the store in this order writes the struct itself.
+// The words and a count, no rows: so the fact is over the store as definitions have it.
 #[derive(Clone, Copy)]
 pub struct SortedRecords<'a> {
     pub records: &'a [u32],
@@ -51,7 +52,7 @@ impl<'a> SortedRecords<'a> {
 }
 
 // The index of the record of an offset, among the first so many of a store. Any count and any offset may be given; what
-// lies past the count is not looked at.
+// lies past the count is not looked at. The count stands beside the store, as C passes it.
 pub fn find(
     records: &[u32],
     count: usize,

@@ -91,7 +91,7 @@ fn print_parts(
 }
 
 // A method descriptor, printed at the front of the output from the parts in the first records of a store and the return
-// part.
+// part. The count stands beside the store, as C passes it.
 pub fn print_method(
     text: &[u8],
     parameters: &[u32],

@@ -7,7 +7,8 @@ ghost use Rattle.names.specs.Names.{name_byte, name_text, plain_module_byte, esc
 
 use laws::TEXT_LIMIT;
 
-// Whether a byte may stand in a name: `<` and `>` are barred in a method's name alone.
+// Whether a byte may stand in a name: `<` and `>` are barred in a method's name alone, so that `matches!` of one set is not
+// enough.
 fn is_name_byte(b: u8, in_method: bool) -> bool
     ensures { result ≡ name_byte in_method b }
 {

@@ -23,7 +23,8 @@ pub enum Follow {
     TwoZeros,
 }
 
-// The operand format of an opcode: what follows its byte.
+// The operand format of an opcode: what follows its byte. No `Option`: no instruction is one case among fifteen, and below
+// among three, with no value in the others.
 #[derive(Clone, Copy)]
 pub enum Format {
     Plain,

@@ -1,4 +1,5 @@
-// What the bytes of an operand mean: each check goes from a read to a read, and a refusal passes through.
+// What the bytes of an operand mean: each check goes from a read to a read, as its definition does, and a refusal passes
+// through.
 #![tactic(auto)]
 
 ghost use Rattle.std.specs.Prelude.{◌≡◌, ◌<◌, ◌≤◌};
@@ -39,10 +40,8 @@ pub fn index_read(pool: &[u8], kinds: Kinds, at: CodeOffset, found: Read) -> Rea
     ensures { result ≡ index_read pool.now kinds at found }
 {
     let (index, next) = found?;
-    match pool::entry_of_kind(pool, kinds, index) {
-        Ok(_) => Ok((index, next)),
-        Err(reason) => Err(reason.at(at)),
-    }
+    pool::entry_of_kind(pool, kinds, index).map_err(|reason| reason.at(at))?;
+    Ok((index, next))
 }
 
 // Bytes at an offset that must be zero.

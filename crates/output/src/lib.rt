@@ -18,7 +18,8 @@ pub fn put(out: &mut [u8], at: usize, bytes: &[u8])
     out[at..end].copy_from_slice(bytes);
 }
 
-// One byte so many times, from an offset on.
+// One byte so many times, from an offset on. An output with an offset, no line of `phrases`: printing knows where each part
+// goes before it writes.
 pub fn put_run(out: &mut [u8], at: usize, count: usize, byte: u8)
     requires { at + count ≤ length out.old }
     ensures { out.new ≡ sets out.old at (replicate count byte) }

@@ -7,13 +7,15 @@ ghost use Rattle.phrases.specs.Wrote.{HasRoom, Wrote};
 ghost use Rattle.phrases.specs.Texts.{item};
 ghost use Rattle.phrases.specs.Numbers.{decimal, signed, blanks, pad_left};
 
-// The text with the number n in a table, where each is ended by a bar, and nothing past its end.
+// The text with the number n in a table, where each is ended by a bar, and nothing past its end. A table is one text, and an
+// empty text is none, as the table is on paper: a row of slices with `Option` would say it no plainer.
 fn item_of(texts: &[u8], n: usize) -> &[u8]
     ensures { result.now ≡ item n texts.now }
 {
     texts.split(|byte| *byte == b'|').nth(n).unwrap_or(&[])
 }
 
+// A recursion, as the digits are on paper.
 #[tactic(auto, using(crate::proofs::Numbers::length_digit, crate::proofs::Numbers::length_more, crate::proofs::Numbers::number_short))]
 fn decimal_length(n: usize) -> usize
     ensures { result ≡ length (decimal n) }

@@ -103,7 +103,7 @@ pub fn check_room(length: usize, room: usize) -> Result<(), Refusal<usize>>
     Ok(())
 }
 
-// A part, which keeps the rules or not: a rule as a parameter would be no plainer, since each entry is one line.
+// A part, printed if it keeps the rules (`kept`). The rule itself as a parameter would be no plainer: each entry is one line.
 fn print_part(text: Text, part: FieldDescriptor, kept: bool, out: &mut [u8]) -> Output
     requires { So kept → So (is_return_part text.bytes.now part) }
     ensures answers { result ≡ printing text.entry.bytes.now kept (part_bytes text.entry.bytes.now part) (length out.old) }

@@ -115,6 +115,7 @@ published_pinned =
       nk_is_array_descriptor = station_settled.nk_is_array_descriptor;
       nk_is_return_descriptor = station_settled.nk_is_return_descriptor;
       nk_is_method_descriptor = station_settled.nk_is_method_descriptor;
+      answer_of_failure = λ κs a. result 1;
       answer_of_refusal = λ κs a. result 1;
       answer_of_output = λ κs a. result 1;
       parts_of_refusal = λ κs a. result 1;

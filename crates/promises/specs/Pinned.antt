@@ -182,6 +182,7 @@ pub record PublishedPinned : Type 2 where
   pub nk_is_array_descriptor : Settles station.specs.contracts.nk_is_array_descriptor.ended station.proofs.nk_is_array_descriptor.Reads.Learnt
   pub nk_is_return_descriptor : Settles station.specs.contracts.nk_is_return_descriptor.ended station.proofs.nk_is_return_descriptor.Reads.Learnt
   pub nk_is_method_descriptor : Settles station.specs.contracts.nk_is_method_descriptor.ended station.proofs.nk_is_method_descriptor.Reads.Learnt
+  pub answer_of_failure : Settles station.specs.contracts.AnswerFromFailure.from.ended station.proofs.AnswerFromFailure.from.Reads.Learnt
   pub answer_of_refusal : Settles station.specs.contracts.AnswerFromRefusalUsize.from.ended station.proofs.AnswerFromRefusalUsize.from.Reads.Learnt
   pub answer_of_output : Settles station.specs.contracts.AnswerFromOutput.from.ended station.proofs.AnswerFromOutput.from.Reads.Learnt
   pub parts_of_refusal : Settles station.specs.contracts.PartsFromRefusalUsize.from.ended station.proofs.PartsFromRefusalUsize.from.Reads.Learnt

@@ -68,7 +68,7 @@ pub fn record_at(records: &[u32], index: RecordIndex) -> Record
     }
 }
 
-// The offset alone, for who seeks a record by it.
+// The offset alone: what the definitions of `lookup` are over.
 pub fn offset_at(records: &[u32], index: RecordIndex) -> CodeOffset
     requires { (index.0 + 1) * record_words ≤ length records.now }
     ensures { result ≡ offset_at records.now index }
@@ -81,6 +81,7 @@ pub fn put_entry(entries: &mut [u32], index: RecordIndex, value: SwitchEntry)
     ensures { entries.new ≡ sets entries.old (index.0 * entry_words) (entry_words_of value) }
 {
     let at = index.0 * ENTRY_WORDS;
+    // Word by word, as above.
     entries[at] = value.key;
     entries[at + 1] = value.jump;
 }

@@ -47,6 +47,7 @@ pub struct Refusal<Place> {
 }
 
 impl Reason {
+    // A method, no `From`: the number is said of the reason, and read as that.
     pub fn number(self) -> u32
         ensures { result ≡ number_of self }
     {

@@ -193,7 +193,8 @@ impl<'a> Case<'a> {
         self.expect_answer(station::nk_class_name(text))
     }
 
-    // is_binary_name TEXT = YES, and likewise every other check but that of a method's name
+    // is_binary_name TEXT = YES, and likewise every other check but that of a method's name. Beside `parts`, since what is
+    // compared is another thing.
     fn check<F: Fn(&[u8]) -> bool>(&mut self, entry: F) -> Result<(), Difference>
         requires { F.IsAlwaysCallable entry }
     {

@@ -4,6 +4,7 @@ use std::fmt;
 
 // What a store keeps of a number, and the base in which a section has it.
 pub trait Number: Copy + Into<u64> {
+    // The base of a number, no code for a kind.
     const BASE: u64;
 
     // The number's low bits, as many as are kept.

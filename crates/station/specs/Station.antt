@@ -8,6 +8,7 @@ use Rattle.records.specs.declared.RecordIndex.{RecordIndex}
 use Rattle.descriptors.specs.Texts.{Field}
 use Rattle.methods.specs.Texts.{Method}
 use Rattle.output.specs.Output.{Output}
+use Rattle.jumps.specs.declared.Failure.{Failure}
 use Rattle.bytecode.specs.Decoding.{Decision}
 use Rattle.station.specs.declared.Answer.{Answer}
 use Rattle.station.specs.declared.Parts.{Parts}
@@ -23,10 +24,14 @@ refusal number place second = record { number = number; second = second; place =
 abbrev pub refusal_at : Refusal ℕ → Answer
 refusal_at r = refusal (number_of r.reason) r.place 0
 
+-- one of code, with its second number
+abbrev pub failure_at : Failure → Answer
+failure_at f = refusal (number_of f.reason) f.place.0 f.second
+
 -- how many instructions, and how many switch entries
 abbrev pub decode_answer : Decision → Answer
 decode_answer (Ok d) = acceptance d.instructions d.entries
-decode_answer (Err f) = refusal (number_of f.reason) f.place.0 f.second
+decode_answer (Err f) = failure_at f
 
 -- the index and 1, or nothing
 abbrev pub lookup_answer : Result (Option RecordIndex) (Refusal CodeOffset) → Answer

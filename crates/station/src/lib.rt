@@ -12,9 +12,10 @@ ghost use Rattle.identifier.specs.Identifier.{identifying, identifier_output};
 ghost use Rattle.records.specs.Records.{record_room, entry_room};
 ghost use Rattle.bytecode.specs.Decoding.{decoding, records_after, entries_after};
 ghost use Rattle.lookup.specs.Lookup.{lookup_of};
-ghost use Rattle.station.specs.Station.{acceptance, refusal, decode_answer, lookup_answer, name_answer, output_answer, part_of, parts_of, no_parts, field_parts, array_parts, method_parts, refusal_at, refused_parts, HasFew};
+ghost use Rattle.station.specs.Station.{acceptance, refusal, decode_answer, lookup_answer, name_answer, output_answer, part_of, parts_of, no_parts, field_parts, array_parts, method_parts, failure_at, refusal_at, refused_parts, HasFew};
 
 use descriptors::{Field, FieldDescriptor};
+use jumps::Failure;
 use methods::Method;
 use output::Output;
 use read::CodeOffset;
@@ -68,6 +69,18 @@ fn refused(number: u32, place: u64, second: u32) -> Answer
         place,
         first: 0,
         next: 0,
+    }
+}
+
+impl From<Failure> for Answer {
+    ghost from_gives = { λ f answer. answer ≡ failure_at f };
+
+    fn from(failure: Failure) -> Answer {
+        refused(
+            failure.reason.number(),
+            failure.place.0 as u64,
+            failure.second,
+        )
     }
 }
 
@@ -159,11 +172,7 @@ pub fn nk_decode(code: &[u8], pool: &[u8], records: &mut [u32], entries: &mut [u
 {
     match bytecode::decode(code, pool, records, entries) {
         Ok(decoded) => accepted(decoded.instructions as u64, decoded.entries as u64),
-        Err(failure) => refused(
-            failure.reason.number(),
-            failure.place.0 as u64,
-            failure.second,
-        ),
+        Err(failure) => failure.into(),
     }
 }
 
@@ -174,7 +183,7 @@ pub fn nk_lookup(records: &[u32], count: u64, offset: u64) -> Answer
     match lookup::find(records, count as usize, CodeOffset(offset as usize)) {
         Ok(Some(index)) => accepted(index.0 as u64, 1),
         Ok(None) => accepted(0, 0),
-        Err(refusal) => refused(refusal.reason.number(), refusal.place.0 as u64, 0),
+        Err(refusal) => Failure::from(refusal).into(),
     }
 }
 

@@ -46,7 +46,7 @@ pub extern "C" fn nk_class_name(text: &[u8]) -> Answer
     station::nk_class_name(text)
 }
 
-// The functions that write have the length as `first`.
+// The functions that write have the length as `first`. Two alike, as C has a name for each.
 #[unsafe(no_mangle)]
 pub extern "C" fn nk_print_field(
     text: &[u8],
