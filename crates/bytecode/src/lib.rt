@@ -29,7 +29,8 @@ pub struct Decoded {
     pub entries: usize,
 }
 
-// The instruction at an offset, in both stores: its record at an index, and its entries from the first on.
+// The instruction at an offset, in both stores: its record at an index, and its entries from the first on. What it asks is what
+// its three calls ask; a type for that would hold a code, an instruction and both stores.
 fn put_line(
     code: &[u8],
     at: CodeOffset,

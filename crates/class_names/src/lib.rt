@@ -73,6 +73,7 @@ pub fn class_name(text: &[u8]) -> Result<(), Refusal<usize>>
 pub fn is_class_name(name: &[u8]) -> bool
     ensures { result ≡ is_class_name name.now }
 {
+    // Each way that is none by itself: only the first is a name.
     match name_end(name, 0) {
         Ok(NameEnd::TextEnd(_)) => name.last().is_some_and(|b| *b != b'/'),
         Ok(NameEnd::Semicolon(_)) => false,

@@ -10,7 +10,7 @@ use class_names::NameEnd;
 use refusals::{Reason, Refusal};
 use texts::Text;
 
-// The parts of a descriptor, four words: the letter is a byte, and start and length are those of the class name in the
+// The parts of a descriptor, four words, as C has them: the letter is a byte, and start and length are those of the class name in the
 // text, 0 and 0 without one.
 #[derive(Clone, Copy, PartialEq, Eq)]
 pub struct FieldDescriptor {
@@ -133,7 +133,7 @@ pub fn return_at(text: Text, start: usize) -> Field
     field_at(text, start)
 }
 
-// A reading of a text of so many bytes that must use them all.
+// A reading of a text of so many bytes that must use them all. It passes a refusal on, as its definition does.
 #[tactic(auto, using(crate::proofs::Laws::used_whole))]
 pub fn all_used<T: Copy>(length: usize, reading: Parsed<T>) -> Parsed<T>
     ensures { result ≡ whole length reading }

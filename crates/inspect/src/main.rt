@@ -37,7 +37,7 @@ struct Lent {
     identifier: [u8; IDENTIFIER_ROOM],
 }
 
-// Zeros of a store, made apart from who uses them: a proof there would count them one by one.
+// Zeros of a store. A function of its own: within a larger one the check would go through the zeros one by one.
 fn zeros<T: Copy + From<u8>, const N: usize>() -> [T; N] {
     [T::from(0); N]
 }
@@ -77,6 +77,7 @@ fn show_instruction(rt: &impl Print, code: &[u8], pool: &[u8], entries: &[u32], 
         |line| listing::instruction_line(code, pool, stored, line),
     );
     let first = stored.d as usize;
+    // By index, as a record names its entries, and below as `record_at` takes it.
     for i in 0..jumps::stored_entries(stored) {
         let entry = records::entry_at(entries, RecordIndex(first + i as usize));
         show(rt, |line| listing::entry_line(stored.offset, entry, line));

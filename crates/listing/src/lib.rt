@@ -61,6 +61,7 @@ fn put_meaning(line: &mut Line<'_>, number: u32)
     requires { HasRoom 50 line.old }
     ensures { Wrote 50 line.old (meaning_or_none number) line.new }
 {
+    // A text that is empty is none, on paper too.
     let start = line.length;
     line.item(MEANINGS, number as usize);
     if line.length == start {
@@ -85,6 +86,7 @@ fn put_byte_name(line: &mut Line<'_>, byte: u8)
     requires { HasRoom 20 line.old }
     ensures { Wrote 20 line.old (named (mnemonic_of byte) byte) line.new }
 {
+    // A mnemonic that is empty is none, on paper too.
     let start = line.length;
     mnemonics::put_mnemonic(line, byte);
     if line.length == start {

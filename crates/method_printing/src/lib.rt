@@ -45,7 +45,8 @@ fn parameters_length(text: Text, records: &[[u32; PART_WORDS]]) -> Output
     Ok(length)
 }
 
-// The bytes of parameters that keep the rules, written from an offset on. The offset after them.
+// The bytes of parameters that keep the rules, written from an offset on. The offset after them. No
+// `Line`: where each part goes is known before any is written.
 fn put_parameters(text: &[u8], records: &[[u32; PART_WORDS]], out: &mut [u8], at: usize) -> usize
     requires { So (every (is_field_part text.now) (parts_of records.now)) × (at + length (all_bytes text.now (parts_of records.now)) ≤ length out.old) }
     ensures ends { result ≡ at + length (all_bytes text.now (parts_of records.now)) }

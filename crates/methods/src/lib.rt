@@ -44,7 +44,7 @@ fn next_part(text: Text, at: usize) -> Result<Next, Refusal<usize>>
 
 // Where the parts of the parameters go.
 trait PartStore {
-    // The words that stand there, how many parts there is room for, and the borrow by which it is lent.
+    // The words that stand there, how many parts there is room for, and which borrow lends it: the same one afterwards.
     ghost stored: { Self → List ℕ };
 
     ghost room: { Self → Option ℕ };

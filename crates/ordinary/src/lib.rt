@@ -1,5 +1,6 @@
 // The instructions that are an opcode with its operands, and those after `wide`. Operands are read in order, and the
 // first refusal is the answer. A function that takes no pool reads operands that name none: on paper its pool is `[]`.
+// One that is given a read passes its refusal on, as its definition does.
 #![tactic(auto)]
 
 ghost use Rattle.std.specs.Prelude.{◌≡◌, ◌<◌, ◌≤◌, [], ◌∷◌};

@@ -35,7 +35,8 @@ fn signed_length(word: u32) -> usize
     if value < 0 { digits + 1 } else { digits }
 }
 
-// A line at the front of a lent output, and how many of its bytes are written.
+// A line at the front of a lent output, and how many of its bytes are written. Each piece asks for the room that it may take:
+// the sums are what an entry asks for at once, which a type could not say of each.
 #[derive(Drop)]
 pub struct Line<'a> {
     pub out: &'a mut [u8],

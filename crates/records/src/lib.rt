@@ -1,5 +1,5 @@
 // Instruction records and switch entries as values, and their words in a lent store (document 01, "Instructions as
-// records"). What is written or read must lie in the store: `bytecode` sees to it before it calls.
+// records"). What is written or read must lie in the store: who calls sees to it.
 #![tactic(auto)]
 
 ghost use Rattle.std.specs.Prelude.{◌≡◌, ◌+◌, ◌*◌, ◌≤◌, length};

@@ -103,7 +103,8 @@ fn after_line(list: &[u8]) -> &[u8]
     }
 }
 
-// The front of a file, as far as there is room; nothing of one that cannot be opened.
+// The front of a file, as far as there is room; nothing of one that cannot be opened. Apart from its caller, so that the bound
+// outlasts the `match`.
 fn read_file<R: Files>(rt: &R, name: &str, room: &mut [u8]) -> usize
     ensures { result ≤ length room.new }
 {

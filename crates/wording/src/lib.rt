@@ -26,6 +26,7 @@ fn put_name(line: &mut Line<'_>, texts: &[u8], n: usize)
     requires { (length (item n texts.now) ≤ 20) × HasRoom 20 line.old }
     ensures { Wrote 20 line.old (named (item n texts.now) n) line.new }
 {
+    // A text that is empty is none, on paper too.
     let start = line.length;
     line.item(texts, n);
     if line.length == start {
