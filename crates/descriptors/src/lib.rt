@@ -1,5 +1,6 @@
 // Field, return and array descriptors, as cafebabe's descriptors.rs reads them. Linear in the text: no
-// byte is read twice but for the one that a type begins with.
+// byte is read twice but for the one that a type begins with. What reads a part is inlined: with a result that passes through
+// memory a method's parameters took twice the time.
 #![tactic(auto)]
 
 ghost use Rattle.std.specs.Prelude.{◌≡◌, ◌+◌, ◌≤◌, ◌<◌, length, get_or, drop};
@@ -65,6 +66,7 @@ pub fn is_base_type(b: u8) -> bool
 }
 
 // The object type whose class name starts at an offset, after its `L`.
+#[inline(always)]
 #[tactic(auto, using(crate::proofs::Laws::object_named))]
 fn object_at(text: Text, dimensions: u32, start: usize) -> Field
     requires { start ≤ length text.bytes.now }
@@ -80,6 +82,7 @@ fn object_at(text: Text, dimensions: u32, start: usize) -> Field
 }
 
 // The base or object type whose letter stands at an offset.
+#[inline(always)]
 #[tactic(auto, using(crate::proofs::Laws::object_read, crate::proofs::Laws::base_read, crate::proofs::Laws::no_type_read))]
 fn type_at(text: Text, dimensions: u32, at: usize) -> Field
     requires { at < length text.bytes.now }
@@ -96,6 +99,7 @@ fn type_at(text: Text, dimensions: u32, at: usize) -> Field
 }
 
 // The field descriptor that starts at an offset; what follows it is ignored. For readers of longer texts.
+#[inline(always)]
 #[tactic(auto, using(crate::proofs::Laws::type_there, crate::proofs::Laws::bracket_256_there, crate::proofs::Laws::bracket_there))]
 pub fn field_at(text: Text, start: usize) -> Field
     ensures { result ≡ field_from 0 start (drop start text.entry.bytes.now) }
@@ -123,6 +127,7 @@ fn is_void(text: &[u8], at: usize) -> bool
 }
 
 // The return descriptor that starts at an offset, for the same readers as `field_at`.
+#[inline(always)]
 #[tactic(auto, using(crate::proofs::Laws::void_read, crate::proofs::Laws::value_read))]
 pub fn return_at(text: Text, start: usize) -> Field
     ensures { result ≡ return_from start (drop start text.entry.bytes.now) }
@@ -146,6 +151,7 @@ pub fn all_used<T: Copy>(length: usize, reading: Parsed<T>) -> Parsed<T>
 }
 
 // The field descriptor that a text begins with; what follows it is ignored.
+#[inline(always)]
 #[tactic(auto, using(crate::proofs::Laws::field_too_long, crate::proofs::Laws::field_short))]
 pub fn field_prefix(text: &[u8]) -> Field
     ensures { result ≡ field_prefix text.now }
@@ -161,6 +167,7 @@ pub fn field_whole(text: &[u8]) -> Field
 }
 
 // The same for a return descriptor, in which `V` is void only as the entire rest of the text.
+#[inline(always)]
 #[tactic(auto, using(crate::proofs::Laws::return_too_long, crate::proofs::Laws::return_short))]
 pub fn return_prefix(text: &[u8]) -> Field
     ensures { result ≡ return_prefix text.now }

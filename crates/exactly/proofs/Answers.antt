@@ -16,6 +16,7 @@ use Rattle.refusals.specs.declared.Reason.{Reason}
 use Rattle.refusals.specs.declared.Reason.TheVariants as reason
 use Rattle.refusals.specs.declared.Refusal.{Refusal}
 use Rattle.refusals.specs.Numbers.{refused, number_of}
+use Rattle.refusals.proofs.Numbers.{numbers_differ}
 use Rattle.read.specs.declared.CodeOffset.{CodeOffset}
 use Rattle.instruction.specs.Steps.{step_of}
 use Rattle.instruction.specs.Entries.{entries_of}
@@ -44,8 +45,8 @@ module _ (code pool : List ℕ) where
   data Ending (at : CodeOffset) (records entries : ℕ) : Run → Type 0 where
     filled : {d : Decoded} → at.0 ≡ length code → Ending at records entries (Ok d)
     fault : {r : Refusal CodeOffset} → at.0 < length code → step_of code pool at ≡ Err r → Ending at records entries (Err r)
-    no_entry : {r : Refusal CodeOffset} (s : Standing code pool) → s.line.at ≡ at → entries < entries_of s.line.instruction → r.reason ≡ reason.NoEntryLeft → r.place ≡ at → Ending at records entries (Err r)
-    no_record : {r : Refusal CodeOffset} (s : Standing code pool) → s.line.at ≡ at → entries_of s.line.instruction ≤ entries → records ≡ 0 → r.reason ≡ reason.NoRecordLeft → r.place ≡ at → Ending at records entries (Err r)
+    no_entry : {r : Refusal CodeOffset} (s : Standing code pool) → s.line.at ≡ at → entries < entries_of s.line.instruction → number_of r.reason ≡ 14 → r.place ≡ at → Ending at records entries (Err r)
+    no_record : {r : Refusal CodeOffset} (s : Standing code pool) → s.line.at ≡ at → entries_of s.line.instruction ≤ entries → records ≡ 0 → number_of r.reason ≡ 15 → r.place ≡ at → Ending at records entries (Err r)
 
   record Course (at : CodeOffset) (records entries : ℕ) (r : Run) : Type 0 where
     lines : List (Standing code pool)
@@ -241,20 +242,20 @@ module _ (code pool : List ℕ) (room_of_records room_of_entries : ℕ) where
 
   why_is : (n : Reason) (place : CodeOffset) (second : ℕ) → Why code pool room_of_records room_of_entries n place second → answer ≡ Err (failure n place second)
   unfolding decoding fitting
-  why_is n place second (Why.long_code h t) = rw (t.0, t.1, t.2) (over_code code pool _ h)
-  why_is n place second (Why.long_pool h k t) = rw (t.0, t.1, t.2) (over_pool code pool _ h k)
+  why_is n place second (Why.long_code h t) = rw (numbers_differ n reason.CodeTooLong t.0, t.1, t.2) (over_code code pool _ h)
+  why_is n place second (Why.long_pool h k t) = rw (numbers_differ n reason.PoolTooLong t.0, t.1, t.2) (over_pool code pool _ h k)
   why_is n place second (Why.bad_instruction ls at stored inside wrong none) =
       rw none (stopped code pool room_of_records room_of_entries ls at stored (Lines.stop (refused n place)) (inside, (step_refused_exactly code pool at n place).1 wrong) (refused n place) refl)
   why_is n place second (Why.no_entry_left ls s stored few t) =
       let rest : Lines = lines_past code pool s in
       let fewer : room_of_entries - total_entries (lines_in ls) < entries_of s.line.instruction = omega (arith, stored.entries_fit) in
-      rw (t.0, t.1, t.2)
+      rw (numbers_differ n reason.NoEntryLeft t.0, t.1, t.2)
       (stopped code pool room_of_records room_of_entries ls s.line.at stored (Lines.line s.line rest) (after_line code pool s) (refused reason.NoEntryLeft s.line.at) (fit_14 s.line rest _ (room_of_records - length ls) fewer))
   why_is n place second (Why.no_record_left ls s stored room full t) =
       let rest : Lines = lines_past code pool s in
       let empty : room_of_records - length ls ≡ 0 = omega arith in
       let some : entries_of s.line.instruction ≤ room_of_entries - total_entries (lines_in ls) = omega arith in
-      rw (t.0, t.1, t.2)
+      rw (numbers_differ n reason.NoRecordLeft t.0, t.1, t.2)
       (stopped code pool room_of_records room_of_entries ls s.line.at stored (Lines.line s.line rest) (after_line code pool s) (refused reason.NoRecordLeft s.line.at)
       (ap (λ (x : ℕ). fitting x (room_of_entries - total_entries (lines_in ls)) (Lines.line s.line rest)) empty ∙ fit_15 s.line rest _ some))
   why_is n place second (Why.bad_jump ls stored fails) =
@@ -268,23 +269,23 @@ pub refused_exactly : RefusedExactly
 refused_exactly code pool room_of_records room_of_entries n place second = (λ e. subst (Says code pool room_of_records room_of_entries) e (truth code pool room_of_records room_of_entries), why_is code pool room_of_records room_of_entries n place second)
 
 -- The numbers
-numbered : {n : Reason} (numbers : List ℕ) (why : Reason) → one_of numbers (number_of why) ≡ true → n ≡ why → In (number_of n) numbers
-numbered numbers why h e = subst (λ (r : Reason). In (number_of r) numbers) (sym e) ((one_of_lem numbers (number_of why)).0 h)
+numbered : {n : ℕ} (numbers : List ℕ) (number : ℕ) → one_of numbers number ≡ true → n ≡ number → In n numbers
+numbered numbers number h e = subst (λ (m : ℕ). In m numbers) (sym e) ((one_of_lem numbers number).0 h)
 
 step_refusal : {n : ℕ} → In n step_refusals → In n refusals
 step_refusal m = Memᴰ.tail (Memᴰ.tail (Memᴰ.append_left (12 ∷ 13 ∷ 14 ∷ 15 ∷ []) m))
 
 why_number : (code pool : List ℕ) (room_of_records room_of_entries : ℕ) (n : Reason) (place : CodeOffset) (second : ℕ) → Why code pool room_of_records room_of_entries n place second → In (number_of n) refusals × (In (number_of n) (12 ∷ 13 ∷ []) ⊎ (second ≡ 0))
-why_number code pool room_of_records room_of_entries n place second (Why.long_code h t) = (numbered refusals reason.CodeTooLong refl t.0, inr t.2)
-why_number code pool room_of_records room_of_entries n place second (Why.long_pool h k t) = (numbered refusals reason.PoolTooLong refl t.0, inr t.2)
+why_number code pool room_of_records room_of_entries n place second (Why.long_code h t) = (numbered refusals 1 refl t.0, inr t.2)
+why_number code pool room_of_records room_of_entries n place second (Why.long_pool h k t) = (numbered refusals 2 refl t.0, inr t.2)
 why_number code pool room_of_records room_of_entries n place second (Why.bad_instruction ls at stored inside wrong none) = (step_refusal (step_refuses code pool at n place ((step_refused_exactly code pool at n place).1 wrong)), inr none)
-why_number code pool room_of_records room_of_entries n place second (Why.no_entry_left ls s stored few t) = (numbered refusals reason.NoEntryLeft refl t.0, inr t.2)
-why_number code pool room_of_records room_of_entries n place second (Why.no_record_left ls s stored room full t) = (numbered refusals reason.NoRecordLeft refl t.0, inr t.2)
+why_number code pool room_of_records room_of_entries n place second (Why.no_entry_left ls s stored few t) = (numbered refusals 14 refl t.0, inr t.2)
+why_number code pool room_of_records room_of_entries n place second (Why.no_record_left ls s stored room full t) = (numbered refusals 15 refl t.0, inr t.2)
 why_number code pool room_of_records room_of_entries n place second (Why.bad_jump ls stored fails) = of_jump fails.fails
   where
     of_jump : Fails (starts_of (all_jumps_drawn ls)) (target_of fails.at.at fails.word) n → In (number_of n) refusals × (In (number_of n) (12 ∷ 13 ∷ []) ⊎ (second ≡ 0))
-    of_jump (Fails.below_zero t e is) = (numbered refusals reason.BelowZero refl is, inl (numbered (12 ∷ 13 ∷ []) reason.BelowZero refl is))
-    of_jump (Fails.nowhere t e missed is) = (numbered refusals reason.NoTarget refl is, inl (numbered (12 ∷ 13 ∷ []) reason.NoTarget refl is))
+    of_jump (Fails.below_zero t e is) = (numbered refusals 12 refl is, inl (numbered (12 ∷ 13 ∷ []) 12 refl is))
+    of_jump (Fails.nowhere t e missed is) = (numbered refusals 13 refl is, inl (numbered (12 ∷ 13 ∷ []) 13 refl is))
 
 pub refusal_numbers : RefusalNumbers
 refusal_numbers code pool room_of_records room_of_entries n place second e = why_number code pool room_of_records room_of_entries n place second ((refused_exactly code pool room_of_records room_of_entries n place second).0 e)

@@ -7,7 +7,7 @@ use lib.ListN.{length, take, drop}
 use lib.Seq.{take_at}
 use Rattle.std.specs.Prelude.{Ok, Err}
 use Rattle.refusals.specs.declared.Reason.{Reason}
-use Rattle.refusals.specs.declared.Reason.TheVariants as reason
+use Rattle.refusals.specs.Numbers.{number_of}
 use Rattle.read.specs.declared.CodeOffset.{CodeOffset}
 use Rattle.lines.specs.Lines.{lines_of, list_of}
 use Rattle.records.specs.Records.{record_words, entry_words, record_room, entry_room}
@@ -31,7 +31,7 @@ module _ (code pool : List ℕ) (room_of_records room_of_entries room_of_records
       let a = d.accepted in
       record { lines = d.lines; accepted = record { stored = stored_more a.stored; instructions = a.instructions; switch_entries = a.switch_entries; land = a.land }; only = d.only }
 
-  why_more : {n : Reason} {place : CodeOffset} {second : ℕ} → (n ≡ reason.NoEntryLeft → ⊥) → (n ≡ reason.NoRecordLeft → ⊥) → Why code pool room_of_records room_of_entries n place second → Why code pool room_of_records' room_of_entries' n place second
+  why_more : {n : Reason} {place : CodeOffset} {second : ℕ} → (number_of n ≡ 14 → ⊥) → (number_of n ≡ 15 → ⊥) → Why code pool room_of_records room_of_entries n place second → Why code pool room_of_records' room_of_entries' n place second
   why_more a b (Why.long_code h t) = Why.long_code h t
   why_more a b (Why.long_pool h k t) = Why.long_pool h k t
   why_more a b (Why.bad_instruction ls at s inside fault none) = Why.bad_instruction ls at (stored_more s) inside fault none

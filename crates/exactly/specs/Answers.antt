@@ -4,7 +4,6 @@ use Rattle.std.specs.Prelude.{ℕ, ◌+◌, ◌≤◌, ◌<◌, ◌↔◌, ◌�
 use mathlib.Core.List.{List, [], ◌∷◌, Memᴰ}
 use Rattle.laws.specs.Bytes.{In}
 use Rattle.refusals.specs.declared.Reason.{Reason}
-use Rattle.refusals.specs.declared.Reason.TheVariants as reason
 use Rattle.refusals.specs.Numbers.{number_of}
 use Rattle.read.specs.declared.CodeOffset.{CodeOffset}
 use Rattle.instruction.specs.Entries.{entries_of}
@@ -43,16 +42,16 @@ Demand2Exactly =
     (code pool : List ℕ) (room_of_records room_of_entries k m : ℕ)
     → (decoding code pool room_of_records room_of_entries ≡ Ok (counts k m)) ↔ Demand2 code pool room_of_records room_of_entries k m
 
--- This reason, at this place, with 0 for the second number
-abbrev pub Tells : Reason → CodeOffset → Reason → CodeOffset → ℕ → Type 0
-Tells why at n place second = (n ≡ why) × (place ≡ at) × (second ≡ 0)
+-- This number, at this place, with 0 for the second number
+abbrev pub Tells : ℕ → CodeOffset → Reason → CodeOffset → ℕ → Type 0
+Tells number at n place second = (number_of n ≡ number) × (place ≡ at) × (second ≡ 0)
 
--- Why a code is refused for a reason, at a place, with a second number
+-- Why a code is refused for a reason, told by its number, at a place, with a second number
 pub data Why (code pool : List ℕ) (room_of_records room_of_entries : ℕ) (n : Reason) (place : CodeOffset) (second : ℕ) : Type 0 where
   -- 1, 2: the code or the pool table is over its limit
-  long_code : code_limit < length code → Tells reason.CodeTooLong (offset 0) n place second → Why code pool room_of_records room_of_entries n place second
+  long_code : code_limit < length code → Tells 1 (offset 0) n place second → Why code pool room_of_records room_of_entries n place second
   long_pool :
-      length code ≤ code_limit → pool_limit < length pool → Tells reason.PoolTooLong (offset 0) n place second
+      length code ≤ code_limit → pool_limit < length pool → Tells 2 (offset 0) n place second
       → Why code pool room_of_records room_of_entries n place second
   -- 3 to 11: after lines that are stored, the code goes on, and the instruction there has a fault of its own
   bad_instruction :
@@ -62,12 +61,12 @@ pub data Why (code pool : List ℕ) (room_of_records room_of_entries : ℕ) (n :
   -- 14: the next line has more entries than there is room left
   no_entry_left :
       (ls : List (Standing code pool)) (s : Standing code pool) → StoredTo code pool room_of_records room_of_entries ls s.line.at
-      → room_of_entries < total_entries (lines_in ls) + entries_of s.line.instruction → Tells reason.NoEntryLeft s.line.at n place second
+      → room_of_entries < total_entries (lines_in ls) + entries_of s.line.instruction → Tells 14 s.line.at n place second
       → Why code pool room_of_records room_of_entries n place second
   -- 15: its entries have room, and no record is left
   no_record_left :
       (ls : List (Standing code pool)) (s : Standing code pool) → StoredTo code pool room_of_records room_of_entries ls s.line.at
-      → total_entries (lines_in ls) + entries_of s.line.instruction ≤ room_of_entries → length ls ≡ room_of_records → Tells reason.NoRecordLeft s.line.at n place second
+      → total_entries (lines_in ls) + entries_of s.line.instruction ≤ room_of_entries → length ls ≡ room_of_records → Tells 15 s.line.at n place second
       → Why code pool room_of_records room_of_entries n place second
   -- 12, 13: all lines are stored, and this is the first jump that fails
   bad_jump :

@@ -1,13 +1,13 @@
 -- Of the stores only their room counts, and more of it does away with 14 and 15 alone. The proofs are in proofs/Stores.antt.
 use Rattle.std.specs.Prelude.{ℕ, ◌*◌, ◌≤◌, List, ◌≡◌, take, Ok, Err}
 use Rattle.records.specs.Records.{record_words, entry_words, record_room, entry_room}
-use Rattle.refusals.specs.declared.Reason.TheVariants as reason
+use Rattle.refusals.specs.Numbers.{number_of}
 use Rattle.bytecode.specs.Decoding.{Decision, counts, decoding, records_after, entries_after}
 
 -- an answer that is not for want of room
 abbrev pub NotForRoom : Decision → Type 0
 NotForRoom (Ok d) = Unit {0}
-NotForRoom (Err f) = (f.reason ≡ reason.NoEntryLeft → ⊥) × (f.reason ≡ reason.NoRecordLeft → ⊥)
+NotForRoom (Err f) = (number_of f.reason ≡ 14 → ⊥) × (number_of f.reason ≡ 15 → ⊥)
 
 -- More room gives the same answer: proved as `larger_rooms`
 abbrev pub LargerRooms : Type 0

@@ -46,8 +46,8 @@ module _ (code : List ℕ) where
       ap₂ (λ (k j : CodeOffset). record { key = word_at code k; jump = word_at code j }) (at_place (omega arith)) (at_place (omega arith))
       ∙ pairs_at (after 8 from) count i d (omega arith)
 
-  pub table_entry : (low i : ℕ) {jump : ℕ} (from : CodeOffset) (count : ℕ) (d : SwitchEntry) → i < count → NumberAt 4 code (after (4 * i) from) jump → record { key = (low + i) % 2 ^ 32; jump = jump } ≡ get_or (table_from code low from count) i d
-  table_entry low i {jump} from count d h n = ap (λ (j : ℕ). record { key = (low + i) % 2 ^ 32; jump = j }) n.is ∙ table_at low from count i d h
+  pub table_entry : (low i : ℕ) {key jump : ℕ} (from : CodeOffset) (count : ℕ) (d : SwitchEntry) → i < count → key ≡ (low + i) % 2 ^ 32 → NumberAt 4 code (after (4 * i) from) jump → record { key = key; jump = jump } ≡ get_or (table_from code low from count) i d
+  table_entry low i {key} {jump} from count d h k j = ap₂ (λ (x y : ℕ). record { key = x; jump = y }) k j.is ∙ table_at low from count i d h
 
   pub lookup_entry : (i : ℕ) {key jump : ℕ} (from : CodeOffset) (count : ℕ) (d : SwitchEntry) → i < count → NumberAt 4 code (after (8 * i) from) key → NumberAt 4 code (after 4 (after (8 * i) from)) jump → record { key = key; jump = jump } ≡ get_or (pairs_from code from count) i d
   lookup_entry i {key} {jump} from count d h k j =

@@ -4,32 +4,31 @@ use Rattle.std.specs.Prelude.{ℕ, [], ◌∷◌, ◌++◌, replicate, Ok, Err}
 use Prim.Native.String.{String}
 use Rattle.laws.specs.Bytes.{byte, ascii}
 use Rattle.laws.specs.Examples.{Computes}
-use Rattle.refusals.specs.declared.Reason.TheVariants as reason
-use Rattle.refusals.specs.Numbers.{refused}
+use Rattle.refusals.specs.Answers.{by_number}
 use Rattle.identifier.specs.Identifier.{identifying, identifier_output}
 
 -- proved as `identifiers_compute`
 abbrev pub IdentifiersCompute : Type 0
 IdentifiersCompute =
-    Computes (λ (e : String × String × ℕ). identifying (ascii e.0) (ascii e.1) e.2) (
+    Computes (λ (e : String × String × ℕ). by_number (identifying (ascii e.0) (ascii e.1) e.2)) (
     (("run", "()V", 6), Ok 6)
     ∷ (("run", "()V", 9), Ok 6)
     ∷ (("<init>", "(I)V", 10), Ok 10)
     ∷ (("<clinit>", "()V", 11), Ok 11)
     -- 32: the name, looked at first
-    ∷ (("", "()V", 9), Err (refused reason.NameNotValid 0))
-    ∷ (("a;", "()V", 9), Err (refused reason.NameNotValid 0))
-    ∷ (("<other>", "()V", 99), Err (refused reason.NameNotValid 0))
-    ∷ (("a/b", "X", 0), Err (refused reason.NameNotValid 0))
+    ∷ (("", "()V", 9), Err (32, 0))
+    ∷ (("a;", "()V", 9), Err (32, 0))
+    ∷ (("<other>", "()V", 99), Err (32, 0))
+    ∷ (("a/b", "X", 0), Err (32, 0))
     -- the descriptor's refusals, at their place in the descriptor
-    ∷ (("run", "(I", 9), Err (refused reason.TypeDue 2))
-    ∷ (("run", "()VV", 9), Err (refused reason.NoSuchType 2))
-    ∷ (("run", "(L;)V", 9), Err (refused reason.EmptySegment 2))
-    ∷ (("run", "(La", 9), Err (refused reason.NameNotEnded 3))
-    ∷ (("run", "", 9), Err (refused reason.NoParenthesis 0))
-    ∷ (("run", "()II", 0), Err (refused reason.LeftOver 3))
+    ∷ (("run", "(I", 9), Err (22, 2))
+    ∷ (("run", "()VV", 9), Err (23, 2))
+    ∷ (("run", "(L;)V", 9), Err (25, 2))
+    ∷ (("run", "(La", 9), Err (27, 3))
+    ∷ (("run", "", 9), Err (29, 0))
+    ∷ (("run", "()II", 0), Err (31, 3))
     -- 33: one byte short
-    ∷ (("run", "()V", 5), Err (refused reason.TooShort 0))
+    ∷ (("run", "()V", 5), Err (33, 0))
     ∷ [])
 
 -- the output, each byte 7 before: proved as `identifier_outputs_compute`
@@ -47,8 +46,8 @@ IdentifierOutputsCompute =
 -- `identifier_limits_compute`
 abbrev pub IdentifierLimitsCompute : Type 0
 IdentifierLimitsCompute =
-    Computes (λ (e : ℕ × ℕ). identifying (replicate e.0 (byte "a")) (replicate e.1 (byte "a")) 0) (
-    ((65536, 65536), Err (refused reason.NameNotValid 0))
-    ∷ ((65535, 65536), Err (refused reason.OverTheLimit 0))
-    ∷ ((65535, 65535), Err (refused reason.NoParenthesis 0))
+    Computes (λ (e : ℕ × ℕ). by_number (identifying (replicate e.0 (byte "a")) (replicate e.1 (byte "a")) 0)) (
+    ((65536, 65536), Err (32, 0))
+    ∷ ((65535, 65536), Err (21, 0))
+    ∷ ((65535, 65535), Err (29, 0))
     ∷ [])

@@ -26,8 +26,8 @@ const ENTRY_ROOM: usize = (CODE_LIMIT + 1) / 4 * ENTRY_WORDS;
 // The bytes of the longest name and the longest descriptor.
 const IDENTIFIER_ROOM: usize = 2 * TEXT_LIMIT;
 
-// The bytes of a text that are shown at once, each of which may be written as four.
-const CHUNK: usize = LINE_ROOM / 4;
+// The bytes of a text that are shown at once, each of which may be written as four. Many, since each time is a write.
+const CHUNK: usize = 1024;
 
 // What is lent to the entries.
 #[derive(Drop)]
@@ -42,22 +42,28 @@ fn zeros<T: Copy + From<u8>, const N: usize>() -> [T; N] {
     [T::from(0); N]
 }
 
-// What a function writes at the front of a line.
-fn show<F: FnOnce(&mut [u8]) -> Output>(rt: &impl Print, write: F)
+// What a function writes at the front of an output.
+fn show_in<F: FnOnce(&mut [u8]) -> Output>(rt: &impl Print, out: &mut [u8], write: F)
     requires { F.IsAlwaysCallable write }
 {
-    let mut line = [0; LINE_ROOM];
-    if let Ok(length) = write(&mut line)
-        && let Some(written) = line.get(..length)
+    if let Ok(length) = write(out)
+        && let Some(written) = out.get(..length)
     {
         let _ = rt.write_all(written);
     }
 }
 
+// The same of a line.
+fn show<F: FnOnce(&mut [u8]) -> Output>(rt: &impl Print, write: F)
+    requires { F.IsAlwaysCallable write }
+{
+    show_in(rt, &mut [0; LINE_ROOM], write);
+}
+
 // A text of any length and of any bytes, none of which may steer the terminal.
 fn show_text(rt: &impl Print, text: &[u8]) {
     for chunk in text.chunks(CHUNK) {
-        show(rt, |line| listing::shown(chunk, line));
+        show_in(rt, &mut [0; 4 * CHUNK], |out| listing::shown(chunk, out));
     }
 }
 

@@ -15,6 +15,7 @@ use Rattle.std.specs.Prelude.{Err}
 use Rattle.refusals.specs.declared.Reason.{Reason}
 use Rattle.refusals.specs.declared.Reason.TheVariants as reason
 use Rattle.refusals.specs.Numbers.{refused, number_of}
+use Rattle.refusals.proofs.Numbers.{numbers_differ}
 use Rattle.read.specs.Reads.{Read, big_endian, after, read_of}
 use Rattle.opcodes.specs.Formats.{format_of}
 use Rattle.opcodes.specs.InstructionKinds.{kind_of}
@@ -37,7 +38,7 @@ module _ (code pool : List ℕ) (at : CodeOffset) (why : Reason) (place : CodeOf
   laid Layout.wide o kind e = StepFault.of_wide o ((wide_refused_exactly code pool (after 1 at) why place).0 e)
   laid Layout.table_switch o kind e = StepFault.of_table o ((table_refused_exactly code (after 1 at) why place).0 e)
   laid Layout.lookup_switch o kind e = StepFault.of_lookup o ((lookup_refused_exactly code (after 1 at) why place).0 e)
-  laid Layout.none o kind e = StepFault.no_instruction (same_reason (sym e)) (same_place (sym e)) o
+  laid Layout.none o kind e = StepFault.no_instruction (ap number_of (same_reason (sym e))) (same_place (sym e)) o
 
   to : step_of code pool at ≡ Err (refused why place) → StepFault code pool at why place
   unfolding step_of
@@ -62,7 +63,7 @@ module _ (code pool : List ℕ) (at : CodeOffset) (why : Reason) (place : CodeOf
   from : StepFault code pool at why place → step_of code pool at ≡ Err (refused why place)
   unfolding step_of
   from (StepFault.past_end three there past) = ap (λ (r : Read). then_read r (λ byte mid. laid_out code pool (kind_of byte) at mid (layout_of (format_of byte)))) ((read_refused 1 code at why place).1 (three, there, omega arith))
-  from (StepFault.no_instruction four there o) = opened o ∙ rw (four, there)
+  from (StepFault.no_instruction four there o) = opened o ∙ rw (numbers_differ why reason.NotAnInstruction four, there)
   from (StepFault.of_operands os o f) = opened o ∙ (operands_refused_exactly code pool (kind_of o.byte) os (after 1 at) why place o.stand.within).1 f
   from (StepFault.of_wide o f) = opened o ∙ (wide_refused_exactly code pool (after 1 at) why place).1 f
   from (StepFault.of_table o f) = opened o ∙ (table_refused_exactly code (after 1 at) why place).1 f
@@ -75,44 +76,44 @@ step_refused_exactly code pool at why place = (to code pool at why place, from c
 abbrev Numbered : Reason → Type 0
 Numbered why = In (number_of why) step_refusals
 
-numbered : {why : Reason} (known : Reason) → So (one_of step_refusals (number_of known)) → why ≡ known → Numbered why
-numbered known h e = subst Numbered (sym e) ((one_of_lem step_refusals (number_of known)).0 h)
+numbered : {n : ℕ} (number : ℕ) → So (one_of step_refusals number) → n ≡ number → In n step_refusals
+numbered number h e = subst (λ (m : ℕ). In m step_refusals) (sym e) ((one_of_lem step_refusals number).0 h)
 
 wrong_number : (pool : List ℕ) (meaning : Meaning) (v : ℕ) (why : Reason) → Wrong pool meaning v why → Numbered why
 wrong_number pool Meaning.unsigned v why w = absurd w
 wrong_number pool Meaning.signed v why w = absurd w
-wrong_number pool (Meaning.index kinds) v why (WrongIndex.no_entry six h) = numbered reason.NoEntry refl six
-wrong_number pool (Meaning.index kinds) v why (WrongIndex.wrong_kind seven p h other) = numbered reason.WrongKind refl seven
-wrong_number pool Meaning.zero v why w = numbered reason.NotZero refl w.0
-wrong_number pool Meaning.array_tag v why w = numbered reason.NoArrayTag refl w.0
+wrong_number pool (Meaning.index kinds) v why (WrongIndex.no_entry six h) = numbered 6 refl six
+wrong_number pool (Meaning.index kinds) v why (WrongIndex.wrong_kind seven p h other) = numbered 7 refl seven
+wrong_number pool Meaning.zero v why w = numbered 8 refl w.0
+wrong_number pool Meaning.array_tag v why w = numbered 9 refl w.0
 
 module _ (code pool : List ℕ) (why : Reason) where
   operand_number : (o : Operand) (at : CodeOffset) → OperandFault code pool o at why → Numbered why
   operand_number (Operand.implied v) at f = absurd f
-  operand_number (Operand.bytes k meaning) at (BytesFault.short three past) = numbered reason.PastEnd refl three
+  operand_number (Operand.bytes k meaning) at (BytesFault.short three past) = numbered 3 refl three
   operand_number (Operand.bytes k meaning) at (BytesFault.wrong bytes all stand w) = wrong_number pool meaning (big_endian bytes) why w
 
   wide_number : (at place : CodeOffset) → WideFault code pool at why place → Numbered why
-  wide_number at place (WideFault.past_end three there past) = numbered reason.PastEnd refl three
-  wide_number at place (WideFault.not_modified five there byte s f) = numbered reason.NotAfterWide refl five
+  wide_number at place (WideFault.past_end three there past) = numbered 3 refl three
+  wide_number at place (WideFault.not_modified five there byte s f) = numbered 5 refl five
   wide_number at place (WideFault.of_operands byte s os q f) = operand_number f.operand place f.fault
 
   table_number : (at place : CodeOffset) → TableFault code at why place → Numbered why
-  table_number at place (TableFault.default_short start f s) = numbered reason.PastEnd refl s.is
-  table_number at place (TableFault.low_short start f default d s) = numbered reason.PastEnd refl s.is
-  table_number at place (TableFault.high_short start f default low d l s) = numbered reason.PastEnd refl s.is
-  table_number at place (TableFault.bad_bounds o ten there bad) = numbered reason.BadBounds refl ten
-  table_number at place (TableFault.entry_short o count is few w) = numbered reason.PastEnd refl w.short.is
+  table_number at place (TableFault.default_short start f s) = numbered 3 refl s.number
+  table_number at place (TableFault.low_short start f default d s) = numbered 3 refl s.number
+  table_number at place (TableFault.high_short start f default low d l s) = numbered 3 refl s.number
+  table_number at place (TableFault.bad_bounds o ten there bad) = numbered 10 refl ten
+  table_number at place (TableFault.entry_short o count is few w) = numbered 3 refl w.short.number
 
   lookup_number : (at place : CodeOffset) → LookupFault code at why place → Numbered why
-  lookup_number at place (LookupFault.default_short start f s) = numbered reason.PastEnd refl s.is
-  lookup_number at place (LookupFault.npairs_short start f default d s) = numbered reason.PastEnd refl s.is
-  lookup_number at place (LookupFault.negative o eleven there over) = numbered reason.NegativeCount refl eleven
-  lookup_number at place (LookupFault.pair_short o count is w) = numbered reason.PastEnd refl w.short.is
+  lookup_number at place (LookupFault.default_short start f s) = numbered 3 refl s.number
+  lookup_number at place (LookupFault.npairs_short start f default d s) = numbered 3 refl s.number
+  lookup_number at place (LookupFault.negative o eleven there over) = numbered 11 refl eleven
+  lookup_number at place (LookupFault.pair_short o count is w) = numbered 3 refl w.short.number
 
   step_number : (at place : CodeOffset) → StepFault code pool at why place → Numbered why
-  step_number at place (StepFault.past_end three there past) = numbered reason.PastEnd refl three
-  step_number at place (StepFault.no_instruction four there o) = numbered reason.NotAnInstruction refl four
+  step_number at place (StepFault.past_end three there past) = numbered 3 refl three
+  step_number at place (StepFault.no_instruction four there o) = numbered 4 refl four
   step_number at place (StepFault.of_operands os o f) = operand_number f.operand place f.fault
   step_number at place (StepFault.of_wide o f) = wide_number (after 1 at) place f
   step_number at place (StepFault.of_table o f) = table_number (after 1 at) place f

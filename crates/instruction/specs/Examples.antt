@@ -1,12 +1,10 @@
 -- Worked steps: the code, and what stands at its offset 0 or at another. Proved in proofs/Examples.antt.
-use Rattle.std.specs.Prelude.{ℕ, List, [], ◌∷◌, ◌++◌, Ok, Err}
+use Rattle.std.specs.Prelude.{ℕ, List, [], ◌∷◌, ◌++◌, Result, Ok, Err}
 use Rattle.laws.specs.Examples.{Computes}
 use Rattle.read.specs.declared.CodeOffset.{CodeOffset}
+use Rattle.ordinary.specs.declared.Instruction.{Instruction}
 use Rattle.ordinary.specs.declared.Instruction.TheVariants as instruction
-use Rattle.ordinary.specs.Ordinary.{Step}
-use Rattle.refusals.specs.declared.Reason.{Reason}
-use Rattle.refusals.specs.declared.Reason.TheVariants as reason
-use Rattle.refusals.specs.Numbers.{refused}
+use Rattle.refusals.specs.Answers.{by_number}
 use Rattle.instruction.specs.Steps.{step_of}
 
 abbrev offset : ℕ → CodeOffset
@@ -16,14 +14,18 @@ offset i = record { 0 = i }
 abbrev pool : List ℕ
 pool = 0 ∷ 3 ∷ 9 ∷ 10 ∷ 11 ∷ 18 ∷ 7 ∷ 0 ∷ []
 
-abbrev ordinary : ℕ → ℕ → ℕ → ℕ → Step
+-- the instruction and where the next one starts, or the number and the place of the refusal
+abbrev Answer : Type 0
+Answer = Result (Instruction × CodeOffset) (ℕ × CodeOffset)
+
+abbrev ordinary : ℕ → ℕ → ℕ → ℕ → Answer
 ordinary kind a b next = Ok (instruction.Ordinary kind a b, offset next)
 
-abbrev refusal : Reason → ℕ → Step
-refusal why place = Err (refused why (offset place))
+abbrev refusal : ℕ → ℕ → Answer
+refusal number place = Err (number, offset place)
 
-abbrev first : List ℕ → Step
-first code = step_of code pool (offset 0)
+abbrev first : List ℕ → Answer
+first code = by_number (step_of code pool (offset 0))
 
 -- each format, short, plain and wide forms: proved as `formats_compute`
 abbrev pub FormatsCompute : Type 0
@@ -69,29 +71,29 @@ FormatsCompute =
 abbrev pub RefusalsCompute : Type 0
 RefusalsCompute =
     Computes first (
-    ([], refusal reason.PastEnd 0)
-    ∷ (0x10 ∷ [], refusal reason.PastEnd 1)
-    ∷ (0x11 ∷ 0 ∷ [], refusal reason.PastEnd 1)
-    ∷ (0x84 ∷ 1 ∷ [], refusal reason.PastEnd 2)
-    ∷ (0xc4 ∷ [], refusal reason.PastEnd 1)
-    ∷ (0xc4 ∷ 0x84 ∷ 0 ∷ 1 ∷ 0 ∷ [], refusal reason.PastEnd 4)
-    ∷ (0xb9 ∷ 0 ∷ 4 ∷ [], refusal reason.PastEnd 3)
-    ∷ (0xb9 ∷ 0 ∷ 4 ∷ 1 ∷ [], refusal reason.PastEnd 4)
-    ∷ (0xba ∷ 0 ∷ 5 ∷ 0 ∷ [], refusal reason.PastEnd 3)
-    ∷ (0xcb ∷ [], refusal reason.NotAnInstruction 0)
-    ∷ (0xfd ∷ [], refusal reason.NotAnInstruction 0)
-    ∷ (0xc4 ∷ 0 ∷ [], refusal reason.NotAfterWide 1)
-    ∷ (0xc4 ∷ 0xc4 ∷ [], refusal reason.NotAfterWide 1)
-    ∷ (0x12 ∷ 0 ∷ [], refusal reason.NoEntry 1)
-    ∷ (0xb2 ∷ 0 ∷ 8 ∷ [], refusal reason.NoEntry 1)
-    ∷ (0xb2 ∷ 0 ∷ 3 ∷ [], refusal reason.WrongKind 1)
-    ∷ (0x12 ∷ 7 ∷ [], refusal reason.WrongKind 1)
+    ([], refusal 3 0)
+    ∷ (0x10 ∷ [], refusal 3 1)
+    ∷ (0x11 ∷ 0 ∷ [], refusal 3 1)
+    ∷ (0x84 ∷ 1 ∷ [], refusal 3 2)
+    ∷ (0xc4 ∷ [], refusal 3 1)
+    ∷ (0xc4 ∷ 0x84 ∷ 0 ∷ 1 ∷ 0 ∷ [], refusal 3 4)
+    ∷ (0xb9 ∷ 0 ∷ 4 ∷ [], refusal 3 3)
+    ∷ (0xb9 ∷ 0 ∷ 4 ∷ 1 ∷ [], refusal 3 4)
+    ∷ (0xba ∷ 0 ∷ 5 ∷ 0 ∷ [], refusal 3 3)
+    ∷ (0xcb ∷ [], refusal 4 0)
+    ∷ (0xfd ∷ [], refusal 4 0)
+    ∷ (0xc4 ∷ 0 ∷ [], refusal 5 1)
+    ∷ (0xc4 ∷ 0xc4 ∷ [], refusal 5 1)
+    ∷ (0x12 ∷ 0 ∷ [], refusal 6 1)
+    ∷ (0xb2 ∷ 0 ∷ 8 ∷ [], refusal 6 1)
+    ∷ (0xb2 ∷ 0 ∷ 3 ∷ [], refusal 7 1)
+    ∷ (0x12 ∷ 7 ∷ [], refusal 7 1)
     -- the index is judged before what follows it is read
-    ∷ (0xb9 ∷ 0 ∷ 3 ∷ [], refusal reason.WrongKind 1)
-    ∷ (0xb9 ∷ 0 ∷ 4 ∷ 1 ∷ 1 ∷ [], refusal reason.NotZero 4)
-    ∷ (0xba ∷ 0 ∷ 5 ∷ 0 ∷ 1 ∷ [], refusal reason.NotZero 3)
-    ∷ (0xbc ∷ 3 ∷ [], refusal reason.NoArrayTag 1)
-    ∷ (0xbc ∷ 12 ∷ [], refusal reason.NoArrayTag 1)
+    ∷ (0xb9 ∷ 0 ∷ 3 ∷ [], refusal 7 1)
+    ∷ (0xb9 ∷ 0 ∷ 4 ∷ 1 ∷ 1 ∷ [], refusal 8 4)
+    ∷ (0xba ∷ 0 ∷ 5 ∷ 0 ∷ 1 ∷ [], refusal 8 3)
+    ∷ (0xbc ∷ 3 ∷ [], refusal 9 1)
+    ∷ (0xbc ∷ 12 ∷ [], refusal 9 1)
     ∷ [])
 
 -- the code of a switch: bytes before it, its opcode, padding and words
@@ -111,26 +113,26 @@ largest = 0x7f ∷ 0xff ∷ 0xff ∷ 0xff ∷ []
 -- where the step starts, and the code: proved as `switches_compute`
 abbrev pub SwitchesCompute : Type 0
 SwitchesCompute =
-    Computes (λ (q : ℕ × List ℕ). step_of q.1 pool (offset q.0)) (
+    Computes (λ (q : ℕ × List ℕ). by_number (step_of q.1 pool (offset q.0))) (
     -- padding of three bytes, of any value, and of none
     ((0, 0xaa ∷ 1 ∷ 2 ∷ 3 ∷ word 24 ++ word 0 ++ word 1 ++ word 24 ++ word 24), Ok (instruction.TableSwitch 24 0 1 (offset 16) 2, offset 24))
     ∷ ((3, 0 ∷ 0 ∷ 0 ∷ 0xaa ∷ word 9 ++ word 5 ++ word 5 ++ word 9), Ok (instruction.TableSwitch 9 5 5 (offset 16) 1, offset 20))
     -- from -1 to 0
     ∷ ((3, 0 ∷ 0 ∷ 0 ∷ 0xaa ∷ word 9 ++ minus_one ++ word 0 ++ word 9 ++ word 9), Ok (instruction.TableSwitch 9 0xffff_ffff 0 (offset 16) 2, offset 24))
     -- low > high, and more entries than a signed word counts, at the high word
-    ∷ ((3, 0 ∷ 0 ∷ 0 ∷ 0xaa ∷ word 9 ++ word 1 ++ word 0), refusal reason.BadBounds 12)
-    ∷ ((3, 0 ∷ 0 ∷ 0 ∷ 0xaa ∷ word 9 ++ least ++ largest), refusal reason.BadBounds 12)
-    ∷ ((3, 0 ∷ 0 ∷ 0 ∷ 0xaa ∷ word 9 ++ word 0 ++ largest), refusal reason.BadBounds 12)
+    ∷ ((3, 0 ∷ 0 ∷ 0 ∷ 0xaa ∷ word 9 ++ word 1 ++ word 0), refusal 10 12)
+    ∷ ((3, 0 ∷ 0 ∷ 0 ∷ 0xaa ∷ word 9 ++ least ++ largest), refusal 10 12)
+    ∷ ((3, 0 ∷ 0 ∷ 0 ∷ 0xaa ∷ word 9 ++ word 0 ++ largest), refusal 10 12)
     -- so many are allowed, and the first does not fit
-    ∷ ((3, 0 ∷ 0 ∷ 0 ∷ 0xaa ∷ word 9 ++ word 1 ++ largest), refusal reason.PastEnd 16)
+    ∷ ((3, 0 ∷ 0 ∷ 0 ∷ 0xaa ∷ word 9 ++ word 1 ++ largest), refusal 3 16)
     -- the second of two entries is cut short; padding past the end
-    ∷ ((3, 0 ∷ 0 ∷ 0 ∷ 0xaa ∷ word 9 ++ word 0 ++ word 1 ++ word 9 ++ 0 ∷ 0 ∷ 0 ∷ []), refusal reason.PastEnd 20)
-    ∷ ((0, 0xaa ∷ []), refusal reason.PastEnd 4)
-    ∷ ((0, 0xaa ∷ 0 ∷ 0 ∷ 0 ∷ word 9 ++ word 0), refusal reason.PastEnd 12)
+    ∷ ((3, 0 ∷ 0 ∷ 0 ∷ 0xaa ∷ word 9 ++ word 0 ++ word 1 ++ word 9 ++ 0 ∷ 0 ∷ 0 ∷ []), refusal 3 20)
+    ∷ ((0, 0xaa ∷ []), refusal 3 4)
+    ∷ ((0, 0xaa ∷ 0 ∷ 0 ∷ 0 ∷ word 9 ++ word 0), refusal 3 12)
     -- no pairs, and one whose keys need no order
     ∷ ((3, 0 ∷ 0 ∷ 0 ∷ 0xab ∷ word 9 ++ word 0), Ok (instruction.LookupSwitch 9 (offset 12) 0, offset 12))
     ∷ ((3, 0 ∷ 0 ∷ 0 ∷ 0xab ∷ word 9 ++ word 1 ++ minus_one ++ word 9), Ok (instruction.LookupSwitch 9 (offset 12) 1, offset 20))
     -- a negative count, at the count; a pair cut short at its jump
-    ∷ ((3, 0 ∷ 0 ∷ 0 ∷ 0xab ∷ word 9 ++ least), refusal reason.NegativeCount 8)
-    ∷ ((3, 0 ∷ 0 ∷ 0 ∷ 0xab ∷ word 9 ++ word 1 ++ word 7 ++ 0 ∷ []), refusal reason.PastEnd 16)
+    ∷ ((3, 0 ∷ 0 ∷ 0 ∷ 0xab ∷ word 9 ++ least), refusal 11 8)
+    ∷ ((3, 0 ∷ 0 ∷ 0 ∷ 0xab ∷ word 9 ++ word 1 ++ word 7 ++ 0 ∷ []), refusal 3 16)
     ∷ [])

@@ -1,4 +1,4 @@
--- What is wrong at an offset, and document 01's reason and place for it, from the side of the bytes that stand there.
+-- What is wrong at an offset, and document 01's number and place for it, from the side of the bytes that stand there.
 -- Nothing here is read. The proofs are in proofs/Faults.antt.
 use Rattle.std.specs.Prelude.{ℕ, ◌≤◌, List, [], ◌∷◌, ◌↔◌, ◌≡◌, length, Err}
 use Rattle.laws.specs.Bytes.{In}
@@ -8,7 +8,6 @@ use Rattle.opcodes.specs.Formats.{format_of}
 use Rattle.opcodes.specs.Operands.{Operand, Layout, layout_of}
 use Rattle.operands.specs.Pictures.{Stand}
 use Rattle.refusals.specs.declared.Reason.{Reason}
-use Rattle.refusals.specs.declared.Reason.TheVariants as reason
 use Rattle.refusals.specs.Numbers.{refused, number_of}
 use Rattle.ordinary.specs.Faults.{OperandsFault, WideFault}
 use Rattle.switches.specs.Faults.{TableFault, LookupFault}
@@ -22,8 +21,8 @@ pub record Opcode (code : List ℕ) (at : CodeOffset) (l : Layout) : Type 0 wher
 
 -- 3: there is no byte. 4: the byte is no instruction. Else there is an opcode, and the fault is in what follows it
 pub data StepFault (code pool : List ℕ) (at : CodeOffset) (why : Reason) (place : CodeOffset) : Type 0 where
-  past_end : why ≡ reason.PastEnd → place ≡ at → length code ≤ at.0 → StepFault code pool at why place
-  no_instruction : why ≡ reason.NotAnInstruction → place ≡ at → Opcode code at Layout.none → StepFault code pool at why place
+  past_end : number_of why ≡ 3 → place ≡ at → length code ≤ at.0 → StepFault code pool at why place
+  no_instruction : number_of why ≡ 4 → place ≡ at → Opcode code at Layout.none → StepFault code pool at why place
   of_operands : (os : List Operand) → Opcode code at (Layout.operands os) → OperandsFault code pool os (after 1 at) why place → StepFault code pool at why place
   of_wide : Opcode code at Layout.wide → WideFault code pool (after 1 at) why place → StepFault code pool at why place
   of_table : Opcode code at Layout.table_switch → TableFault code (after 1 at) why place → StepFault code pool at why place

@@ -19,6 +19,7 @@ use Rattle.opcodes.specs.InstructionKinds.{instruction_kinds, kind_of}
 use Rattle.std.specs.Prelude.{Err}
 use Rattle.refusals.specs.declared.Reason.{Reason}
 use Rattle.refusals.specs.declared.Reason.TheVariants as reason
+use Rattle.refusals.proofs.Numbers.{numbers_differ}
 use Rattle.jumps.specs.declared.Failure.{Failure}
 use Rattle.jumps.specs.Jumps.{Jumps, placed, target_of, failure, good, jump_check, jumps_check, starts_of, check}
 use Rattle.jumps.specs.Stored.{has_jump}
@@ -58,9 +59,9 @@ module _ (starts : List ℕ) (at : CodeOffset) (second : ℕ) where
       number : s ≡ second
 
     failed : (z : ℤ) → Fails starts z why → Err (failure why at second) ≡ jump_check starts at second z
-    failed z (Fails.below_zero t e q) = rw q (jump_below starts at second z (sym (ap placed e)))
+    failed z (Fails.below_zero t e q) = rw (numbers_differ why reason.BelowZero q) (jump_below starts at second z (sym (ap placed e)))
     failed z (Fails.nowhere t e out q) =
-        rw q (jump_nowhere starts at second z (sym (ap placed e)) (not-true _ ((so_not _).1 (λ h. out ((one_of_lem starts t).0 h)))))
+        rw (numbers_differ why reason.NoTarget q) (jump_nowhere starts at second z (sym (ap placed e)) (not-true _ ((so_not _).1 (λ h. out ((one_of_lem starts t).0 h)))))
 
     fails_exactly : (z : ℤ) → (jump_check starts at second z ≡ Err (failure why p s)) ↔ Found z
     fails_exactly z = (λ h. go (judged z) h, λ f. rw (f.place, f.number) (sym (failed z f.wrong)))

@@ -3,7 +3,7 @@ use Rattle.std.specs.Prelude.{ℕ, ◌≡◌, ℤ, pos, negsuc, length}
 use mathlib.Core.List.{List, ◌∷◌, ◌++◌, Memᴰ}
 use Rattle.laws.specs.Bytes.{In}
 use Rattle.refusals.specs.declared.Reason.{Reason}
-use Rattle.refusals.specs.declared.Reason.TheVariants as reason
+use Rattle.refusals.specs.Numbers.{number_of}
 use Rattle.read.specs.declared.CodeOffset.{CodeOffset}
 use Rattle.jumps.specs.Jumps.{Jumps, target_of, starts_of}
 
@@ -16,10 +16,10 @@ pub record Lands (starts : List ℕ) (target : ℤ) : Type 0 where
 abbrev pub AllLand : List ℕ → CodeOffset → List ℕ → Type 0
 AllLand starts at words = (word : ℕ) → In word words → Lands starts (target_of at word)
 
--- a target fails for a reason
+-- a target fails for a reason, told by its number
 pub data Fails (starts : List ℕ) (target : ℤ) (why : Reason) : Type 0 where
-  below_zero : (t : ℕ) → target ≡ negsuc t → why ≡ reason.BelowZero → Fails starts target why
-  nowhere : (t : ℕ) → target ≡ pos t → (In t starts → ⊥) → why ≡ reason.NoTarget → Fails starts target why
+  below_zero : (t : ℕ) → target ≡ negsuc t → number_of why ≡ 12 → Fails starts target why
+  nowhere : (t : ℕ) → target ≡ pos t → (In t starts → ⊥) → number_of why ≡ 13 → Fails starts target why
 
 -- the jump that fails, with every jump before it landing
 pub record FirstFailing (js : List Jumps) (why : Reason) (place : CodeOffset) (second : ℕ) : Type 0 where

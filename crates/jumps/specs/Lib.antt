@@ -1,4 +1,5 @@
 pub mod Jumps
+pub mod Answers
 pub mod Stored
 pub mod Landing
 pub mod Theorems

@@ -3,8 +3,7 @@ use Rattle.std.specs.Prelude.{ℕ, List, [], ◌∷◌, ◌++◌, replicate, Ok,
 use Rattle.laws.specs.Bytes.{ascii}
 use Rattle.laws.specs.Examples.{Computes}
 use Rattle.records.specs.declared.Record.{Record}
-use Rattle.refusals.specs.declared.Reason.TheVariants as reason
-use Rattle.refusals.specs.Numbers.{refused}
+use Rattle.refusals.specs.Answers.{by_number}
 use Rattle.listing.specs.Lines.{lining, newline, instruction_line, entry_line, accepted_line, refused_line, sum_line}
 
 abbrev words : ℕ → ℕ → ℕ → ℕ → ℕ → Record
@@ -84,4 +83,4 @@ SumLineComputes = Computes (λ (e : ℕ × ℕ × ℕ). sum_line e.0 e.1 e.2) ((
 
 -- the room that a line of nine bytes must find: proved as `rooms_compute`
 abbrev pub RoomsCompute : Type 0
-RoomsCompute = Computes (lining (ascii "a line...")) ((160, Ok 9) ∷ (159, Err (refused reason.TooShort 0)) ∷ [])
+RoomsCompute = Computes (λ (room : ℕ). by_number (lining (ascii "a line...") room)) ((160, Ok 9) ∷ (159, Err (33, 0)) ∷ [])

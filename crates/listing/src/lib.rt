@@ -1,7 +1,7 @@
 // The lines of a listing like javap's, written at the front of a lent output.
 #![tactic(auto, using(phrases::proofs::Wrote::pieces, crate::proofs::Laws::entry))]
 
-ghost use Rattle.std.specs.Prelude.{◌≡◌, ◌++◌, ◌+◌, ◌≤◌, ◌<◌, length, MatchResult};
+ghost use Rattle.std.specs.Prelude.{◌≡◌, ◌++◌, ◌+◌, ◌≤◌, ◌<◌, length, IfOk, MatchResult};
 ghost use Rattle.refusals.specs.declared.Reason.TheVariants.{TooShort};
 ghost use Rattle.refusals.specs.Numbers.{refused};
 ghost use Rattle.opcodes.specs.Formats.{format_of};
@@ -152,6 +152,7 @@ fn check_room(out: &[u8]) -> Result<(), Refusal<usize>>
 pub fn instruction_line(code: &[u8], pool: &[u8], record: Record, out: &mut [u8]) -> Output
     ensures answers { result ≡ lining (instruction_line code.now pool.now «record») (length out.old) }
     ensures writes { out.new ≡ line_output (instruction_line code.now pool.now «record») out.old }
+    ensures short { IfOk result (λ n. n ≤ 138) }
 {
     check_room(out)?;
     let mut line = Line { out, length: 0 };
@@ -166,6 +167,7 @@ pub fn instruction_line(code: &[u8], pool: &[u8], record: Record, out: &mut [u8]
 pub fn entry_line(offset: u32, entry: SwitchEntry, out: &mut [u8]) -> Output
     ensures answers { result ≡ lining (entry_line offset entry) (length out.old) }
     ensures writes { out.new ≡ line_output (entry_line offset entry) out.old }
+    ensures short { IfOk result (λ n. n ≤ 71) }
 {
     check_room(out)?;
     let mut line = Line { out, length: 0 };
@@ -180,6 +182,7 @@ pub fn entry_line(offset: u32, entry: SwitchEntry, out: &mut [u8]) -> Output
 pub fn accepted_line(instructions: usize, entries: usize, out: &mut [u8]) -> Output
     ensures answers { result ≡ lining (accepted_line instructions entries) (length out.old) }
     ensures writes { out.new ≡ line_output (accepted_line instructions entries) out.old }
+    ensures short { IfOk result (λ n. n ≤ 93) }
 {
     check_room(out)?;
     let mut line = Line { out, length: 0 };
@@ -195,6 +198,7 @@ pub fn accepted_line(instructions: usize, entries: usize, out: &mut [u8]) -> Out
 pub fn refused_line(number: u32, place: usize, second: u32, out: &mut [u8]) -> Output
     ensures answers { result ≡ lining (refused_line number place second) (length out.old) }
     ensures writes { out.new ≡ line_output (refused_line number place second) out.old }
+    ensures short { IfOk result (λ n. n ≤ 142) }
 {
     check_room(out)?;
     let mut line = Line { out, length: 0 };
@@ -209,6 +213,7 @@ pub fn refused_line(number: u32, place: usize, second: u32, out: &mut [u8]) -> O
 pub fn sum_line(methods: usize, accepted: usize, refused: usize, out: &mut [u8]) -> Output
     ensures answers { result ≡ lining (sum_line methods accepted refused) (length out.old) }
     ensures writes { out.new ≡ line_output (sum_line methods accepted refused) out.old }
+    ensures short { IfOk result (λ n. n ≤ 90) }
 {
     check_room(out)?;
     let mut line = Line { out, length: 0 };

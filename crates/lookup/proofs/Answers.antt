@@ -3,7 +3,7 @@ use Prim.Native.Nat.{ℕ, ◌<◌}
 use mathlib.Core.Bool.{Bool, true, false, So}
 use mathlib.Core.List.{List}
 use mathlib.Core.Logic.{◌↔◌, ◌⊎◌, inl, inr, ⊎_elim}
-use mathlib.Core.Path.{◌≡◌, refl, sym}
+use mathlib.Core.Path.{◌≡◌, refl, sym, ap, ◌∙◌}
 use native.Mathlib.Omega.{arith}
 use borrow.Author.Tests.{le-leb, leb-true, not-true}
 use lib.Dec.{leb}
@@ -32,8 +32,8 @@ module _ (records : List ℕ) (count : ℕ) (x : CodeOffset) where
   told (Some k) f = sym ((one_of_offsets records count x.0).1 (k.0, omega (arith, f.1), f.2))
   told None f = sym (not-true _ ((so_not _).1 (λ h. let m = (one_of_offsets records count x.0).0 h in f m.0 (omega arith) (omega (arith, m.1)) m.2)))
 
-  pub is_offset : is_some (first_from records x (index 0) count) ≡ one_of (offsets_of records count) x.0
-  is_offset = told (first_from records x (index 0) count) (fits records x count (index 0))
+  pub is_offset : {y : ℕ} → x.0 ≡ y → is_some (first_from records x (index 0) count) ≡ one_of (offsets_of records count) y
+  is_offset e = told (first_from records x (index 0) count) (fits records x count (index 0)) ∙ ap (one_of (offsets_of records count)) e
 
   pub lookup_sorted : Sorted records count → Ok (first_from records x (index 0) count) ≡ lookup_of records count x
   unfolding lookup_of

@@ -4,20 +4,23 @@ use mathlib.Core.Bool.{Bool, true, false}
 use mathlib.Core.List.{List}
 use mathlib.Core.Logic.{⊎_elim}
 use mathlib.Core.Path.{◌≡◌, refl, sym, ap, ◌∙◌}
-use native.Mathlib.Nat.{eq-or-lt_of_le}
+use native.Mathlib.Nat.{eq-or-lt_of_le, lt_of_not-le}
 use native.Mathlib.Omega.{arith}
 use borrow.Author.Tests.{eqb-true, eqb-false}
 use lib.Dec.{eqb}
 use Rattle.read.specs.declared.CodeOffset.{CodeOffset}
 use Rattle.records.specs.declared.RecordIndex.{RecordIndex}
-use Rattle.records.specs.Records.{index}
+use Rattle.records.specs.Records.{index, offset_at}
 use Rattle.std.specs.Prelude.{Option, Some, None}
 use Rattle.lookup.specs.Lookup.{offset_of, first_from, Sorted}
 
 -- The order of the offsets is that of the records.
 module _ {records : List ℕ} {count : ℕ} (sorted : Sorted records count) where
-  pub not_below : (i j : ℕ) → i ≤ j → j < count → offset_of records i ≤ offset_of records j
+  not_below : (i j : ℕ) → i ≤ j → j < count → offset_of records i ≤ offset_of records j
   not_below i j h l = ⊎_elim (λ e. omega (arith, ap (offset_of records) e)) (λ m. omega (arith, sorted.rising i j m l)) (eq-or-lt_of_le h)
+
+  before : (i j : ℕ) → i < count → offset_of records i < offset_of records j → i < j
+  before i j l h = lt_of_not-le (λ m. omega (arith, not_below j i m l))
 
   same_record : (i j : ℕ) → i < count → j < count → offset_of records i ≡ offset_of records j → i ≡ j
   same_record i j l m e =
@@ -61,3 +64,29 @@ module _ (records : List ℕ) (x : CodeOffset) where
 
   pub is_first : (i : RecordIndex) (n : ℕ) → Sorted records (i.0 + n) → (a : Option RecordIndex) → Fits i.0 n a → a ≡ first_from records x i n
   is_first i n sorted a f = one_answer i.0 n sorted a (first_from records x i n) f (fits n i)
+
+  -- What is found in a span: of no records nothing, and else by the offset of a record in the middle.
+  pub no_record : (i : RecordIndex) {n : ℕ} → n ≡ 0 → None ≡ first_from records x i n
+  unfolding first_from
+  no_record i e = rw e
+
+  module _ (i : RecordIndex) (n mid : ℕ) (sorted : Sorted records (i.0 + n)) (inside : (i.0 ≤ mid) × (mid < i.0 + n)) {there : CodeOffset} (read : there ≡ offset_at records (index mid)) where
+    middle : there.0 ≡ offset_of records mid
+    middle = ap (λ (o : CodeOffset). o.0) read
+
+    pub at_middle : {k : ℕ} → mid ≡ k → there.0 ≡ x.0 → Some (index k) ≡ first_from records x i n
+    at_middle is e = is_first i n sorted (Some (index _)) (omega arith, omega arith, sym (middle ∙ ap (offset_of records) is) ∙ e)
+
+    part :
+        (j : RecordIndex) (m : ℕ) → i.0 ≤ j.0 → j.0 + m ≤ i.0 + n
+        → ((k : ℕ) → i.0 ≤ k → k < i.0 + n → offset_of records k ≡ x.0 → (j.0 ≤ k) × (k < j.0 + m))
+        → first_from records x j m ≡ first_from records x i n
+    part j m p q only = is_first i n sorted (first_from records x j m) (wider i.0 n j.0 m p q only (first_from records x j m) (fits m j))
+
+    pub left_half : (h : ℕ) → i.0 + h ≡ mid → x.0 < there.0 → first_from records x i h ≡ first_from records x i n
+    left_half h up less = part i h (omega arith) (omega arith) (λ k p q e. (p, let earlier = before sorted k mid q (omega (arith, middle, e)) in omega arith))
+
+    pub right_half : (j : RecordIndex) (m : ℕ) → j.0 ≡ mid + 1 → j.0 + m ≡ i.0 + n → there.0 < x.0 → first_from records x j m ≡ first_from records x i n
+    right_half j m from up more =
+        part j m (omega arith) (omega arith)
+        (λ k p q e. (let later = before sorted mid k (omega arith) (omega (arith, middle, e)) in omega arith, omega arith))

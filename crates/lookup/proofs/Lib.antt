@@ -1,6 +1,6 @@
 pub mod First
 pub mod Rising
-pub mod Search
+pub mod Rows
 pub mod Answers
 pub mod Exactly
 pub mod Examples

@@ -5,8 +5,8 @@ use Rattle.laws.specs.Examples.{Computes}
 use Rattle.read.specs.declared.CodeOffset.{CodeOffset}
 use Rattle.records.specs.declared.RecordIndex.{RecordIndex}
 use Rattle.records.specs.Records.{index}
-use Rattle.refusals.specs.declared.Refusal.{Refusal}
-use Rattle.lookup.specs.Lookup.{offsets_of, rises, not_sorted, lookup_of}
+use Rattle.refusals.specs.Answers.{by_number}
+use Rattle.lookup.specs.Lookup.{offsets_of, rises, lookup_of}
 
 -- records with these offsets; the other words are no offsets
 abbrev store_of : List ℕ → List ℕ
@@ -22,19 +22,19 @@ falling = store_of (0 ∷ 7 ∷ 3 ∷ [])
 abbrev equal : List ℕ
 equal = store_of (0 ∷ 3 ∷ 3 ∷ [])
 
-abbrev at : ℕ → Result (Option RecordIndex) (Refusal CodeOffset)
+abbrev at : ℕ → Result (Option RecordIndex) (ℕ × CodeOffset)
 at i = Ok (Some (index i))
 
-abbrev nothing : Result (Option RecordIndex) (Refusal CodeOffset)
+abbrev nothing : Result (Option RecordIndex) (ℕ × CodeOffset)
 nothing = Ok None
 
-abbrev refused : Result (Option RecordIndex) (Refusal CodeOffset)
-refused = Err not_sorted
+abbrev refused : Result (Option RecordIndex) (ℕ × CodeOffset)
+refused = Err (35, record { 0 = 0 })
 
 -- proved as `lookups_compute`
 abbrev pub LookupsCompute : Type 0
 LookupsCompute =
-    Computes (λ (q : List ℕ × ℕ × ℕ). lookup_of q.0 q.1 (record { 0 = q.2 })) (
+    Computes (λ (q : List ℕ × ℕ × ℕ). by_number (lookup_of q.0 q.1 (record { 0 = q.2 }))) (
     ((three, 3, 0), at 0)
     ∷ ((three, 3, 3), at 1)
     ∷ ((three, 3, 7), at 2)

@@ -1,7 +1,7 @@
 -- The clauses of the readings by their tests, and the loop over the parameters.
 use Prim.Native.Nat.{ℕ, suc, ◌+◌, ◌-◌, ◌*◌, ◌≤◌, ◌<◌}
 use mathlib.Core.Bool.{Bool, true, false, false≢true}
-use mathlib.Core.List.{List, ◌∷◌}
+use mathlib.Core.List.{List, [], ◌∷◌}
 use mathlib.Core.Path.{◌≡◌, refl, sym, ap, ◌∙◌}
 use native.Mathlib.Nat.{sub-zero}
 use native.Mathlib.Omega.{arith}
@@ -291,3 +291,7 @@ module _ (s : List ℕ) where
     pub refused_fills : (store : List ℕ) → store ≡ store_from store 0 (within_room room (method_reading s))
     unfolding store_from
     refused_fills store = rw none_opens
+
+-- a record's words, each compared by its value
+pub words_are : (f : FieldDescriptor) {a b c d : ℕ} → a ≡ f.dimensions → b ≡ f.letter → c ≡ f.start → d ≡ f.length → a ∷ b ∷ c ∷ d ∷ [] ≡ words f
+words_are f p q r s = rw (p, q, r, s)

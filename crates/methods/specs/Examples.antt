@@ -1,41 +1,47 @@
 -- Worked method descriptors, and the settled examples of document 01 for texts. Proved in proofs/Examples.antt.
 use Rattle.std.specs.Prelude.{ℕ, [], ◌∷◌, replicate, Result, Ok, Err}
 use Prim.Native.String.{String}
-use Rattle.refusals.specs.declared.Reason.TheVariants as reason
 use Rattle.refusals.specs.declared.Refusal.{Refusal}
-use Rattle.refusals.specs.Numbers.{refused, number_of}
+use Rattle.refusals.specs.Numbers.{number_of}
+use Rattle.refusals.specs.Answers.{by_number}
 use Rattle.laws.specs.Bytes.{byte, ascii}
 use Rattle.laws.specs.Examples.{Computes}
 use Rattle.class_names.specs.Names.{class_name}
+use Rattle.descriptors.specs.declared.FieldDescriptor.{FieldDescriptor}
 use Rattle.descriptors.specs.Texts.{base, object, void, field_text}
-use Rattle.methods.specs.Texts.{parsed, method_prefix, method_text, text_store}
+use Rattle.methods.specs.declared.MethodDescriptor.{MethodDescriptor}
+use Rattle.methods.specs.Texts.{method_prefix, method_text, text_store}
+
+-- so many parameters, the return part, and the bytes used
+abbrev parsed : ℕ → FieldDescriptor → ℕ → Result (MethodDescriptor × ℕ) (ℕ × ℕ)
+parsed count f used = Ok (record { parameters = count; returned = f }, used)
 
 -- proved as `methods_compute`, with room for two parameters
 abbrev pub MethodsCompute : Type 0
 MethodsCompute =
-    Computes (λ (s : String). method_text 2 (ascii s)) (
+    Computes (λ (s : String). by_number (method_text 2 (ascii s))) (
     ("()V", parsed 0 void 3)
     ∷ ("(I[La;)J", parsed 2 (base 0 (byte "J")) 8)
     ∷ ("(La);)[Lb;", parsed 1 (object 1 8 1) 10)
-    ∷ ("", Err (refused reason.NoParenthesis 0))
-    ∷ ("V", Err (refused reason.NoParenthesis 0))
-    ∷ ("(", Err (refused reason.TypeDue 1))
-    ∷ ("(I", Err (refused reason.TypeDue 2))
-    ∷ ("(I)", Err (refused reason.TypeDue 3))
-    ∷ ("(V)V", Err (refused reason.NoSuchType 1))
-    ∷ ("()VV", Err (refused reason.NoSuchType 2))
-    ∷ ("(III)V", Err (refused reason.NoPartLeft 3))
-    ∷ ("(IIIX)V", Err (refused reason.NoPartLeft 3))
-    ∷ ("(IIX)V", Err (refused reason.NoSuchType 3))
-    ∷ ("()II", Err (refused reason.LeftOver 3))
+    ∷ ("", Err (29, 0))
+    ∷ ("V", Err (29, 0))
+    ∷ ("(", Err (22, 1))
+    ∷ ("(I", Err (22, 2))
+    ∷ ("(I)", Err (22, 3))
+    ∷ ("(V)V", Err (23, 1))
+    ∷ ("()VV", Err (23, 2))
+    ∷ ("(III)V", Err (30, 3))
+    ∷ ("(IIIX)V", Err (30, 3))
+    ∷ ("(IIX)V", Err (23, 3))
+    ∷ ("()II", Err (31, 3))
     ∷ [])
 
 -- proved as `method_prefixes_compute`
 abbrev pub MethodPrefixesCompute : Type 0
 MethodPrefixesCompute =
-    Computes (λ (s : String). method_prefix 2 (ascii s)) (
+    Computes (λ (s : String). by_number (method_prefix 2 (ascii s))) (
     ("()II", parsed 0 (base 0 (byte "I")) 3)
-    ∷ ("()VV", Err (refused reason.NoSuchType 2))
+    ∷ ("()VV", Err (23, 2))
     ∷ [])
 
 -- proved as `stores_compute`: a store of nine words, each 7 before

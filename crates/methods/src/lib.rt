@@ -30,6 +30,8 @@ pub enum Next {
     Return(FieldDescriptor, usize),
 }
 
+// Inlined, as the readings of descriptors are.
+#[inline(always)]
 #[tactic(auto, using(crate::proofs::Laws::return_read, crate::proofs::Laws::parameter_read))]
 fn next_part(text: Text, at: usize) -> Result<Next, Refusal<usize>>
     ensures { result ≡ next_from at (drop at text.entry.bytes.now) }

@@ -1,6 +1,6 @@
 -- The answers at a place of the text: the byte at i decides with the rest from i + 1 on.
 use Prim.Native.Nat.{ℕ, ◌+◌, ◌≤◌, ◌<◌}
-use mathlib.Core.Bool.{Bool, true, false, not, false≢true, ◌&&◌, and-false}
+use mathlib.Core.Bool.{Bool, true, false, not, false≢true, ◌&&◌, and_assoc, and-false}
 use mathlib.Core.List.{List, [], ◌∷◌}
 use mathlib.Core.Path.{◌≡◌, refl, sym, ap, ◌∙◌}
 use native.Mathlib.Omega.{arith}
@@ -12,8 +12,7 @@ use Rattle.laws.specs.Bytes.{byte, ascii, every, same_text, within_limit, text_l
 use Rattle.laws.proofs.Bytes.{same_text_lem}
 use Rattle.laws.proofs.Lists.{here, done}
 use Rattle.std.specs.Bool.{◌==◌, nat_eq}
-use Rattle.std.specs.List.{list_all, slice_split, onto_first}
-use Rattle.std.proofs.lemmas.List.Splits.{slice_split-cons_yes, slice_split-cons_no}
+use Rattle.std.specs.List.{list_all}
 use Rattle.names.specs.Names.{name_byte, name_text, is_method_name, segments, before, is_unqualified_name, is_binary_name, is_module_name, plain_module_byte, escapable, module_rest}
 
 -- the library's test on all elements
@@ -78,19 +77,61 @@ pub byte_segments : (b : ℕ) (s : List ℕ) → (b ≡ byte "/" → ⊥) → se
 unfolding segments
 byte_segments b s e = rw (ne_eqb b (byte "/") e, segments)
 
--- the parts that the library's split gives
-pub split_segments : (s : List ℕ) → slice_split (λ b. eqb b (byte "/")) s ≡ segments s
-unfolding segments
-split_segments [] = refl
-split_segments (b ∷ s) = go (split_segments s) (eqb b (byte "/")) refl
-  where
-    onto_before : (ws : List (List ℕ)) → onto_first b ws ≡ before b ws
-    onto_before [] = unfold before in refl
-    onto_before (w ∷ ws) = unfold before in refl
+-- the segments that are left, where the first of them may have begun before
+pub names_left : Bool → List (List ℕ) → Bool
+names_left started [] = true
+names_left true (w ∷ ws) = every (name_byte false) w && every (name_text false) ws
+names_left false (w ∷ ws) = every (name_text false) (w ∷ ws)
 
-    go : slice_split (λ b. eqb b (byte "/")) s ≡ segments s → (slash : Bool) → eqb b (byte "/") ≡ slash → slice_split (λ b. eqb b (byte "/")) (b ∷ s) ≡ segments (b ∷ s)
-    go rest true e = slice_split-cons_yes (λ b. eqb b (byte "/")) b s e ∙ ap (λ (ws : List (List ℕ)). [] ∷ ws) rest ∙ sym (slash_segments b s (eqb-true _ _ e))
-    go rest false e = slice_split-cons_no (λ b. eqb b (byte "/")) b s e ∙ onto_before (slice_split (λ b. eqb b (byte "/")) s) ∙ ap (before b) rest ∙ sym (byte_segments b s (eqb-false _ _ e))
+pub none_begun : (s : List ℕ) → names_left false (segments s) ≡ every (name_text false) (segments s)
+unfolding names_left every
+none_begun s = go (segments s)
+  where
+    go : (ws : List (List ℕ)) → names_left false ws ≡ every (name_text false) ws
+    go [] = refl
+    go (w ∷ ws) = refl
+
+slash_first : (started : Bool) (ws : List (List ℕ)) → names_left started ([] ∷ ws) ≡ (started && names_left false ws)
+unfolding names_left every name_text
+slash_first true [] = refl
+slash_first true (w ∷ ws) = refl
+slash_first false ws = refl
+
+byte_first : (started : Bool) (b : ℕ) (ws : List (List ℕ)) → names_left started (before b ws) ≡ (name_byte false b && names_left true ws)
+unfolding names_left before every name_text
+byte_first true b [] = and_assoc (name_byte false b) true true
+byte_first false b [] = and_assoc (name_byte false b) true true
+byte_first true b (w ∷ ws) = and_assoc (name_byte false b) (every (name_byte false) w) (every (name_text false) ws)
+byte_first false b (w ∷ ws) = and_assoc (name_byte false b) (every (name_byte false) w) (every (name_text false) ws)
+
+-- The loop of a binary name: the segments that are left at the place i decide as the whole.
+module _ (started : Bool) (i : ℕ) (s : List ℕ) {whole : Bool} (left : names_left started (segments (drop i s)) ≡ whole) where
+  module _ (inside : i < length s) where
+    at_slash : {t : Bool} → get_or s i 0 ≡ byte "/" → (started && names_left false (segments (drop (i + 1) s))) ≡ t → t ≡ whole
+    at_slash e p = sym (ap (names_left started) (here segments s i inside ∙ slash_segments _ _ e) ∙ slash_first started _ ∙ p) ∙ left
+
+    at_byte : {t : Bool} → (get_or s i 0 ≡ byte "/" → ⊥) → (name_byte false (get_or s i 0) && names_left true (segments (drop (i + 1) s))) ≡ t → t ≡ whole
+    at_byte e p = sym (ap (names_left started) (here segments s i inside ∙ byte_segments _ _ e) ∙ byte_first started _ _ ∙ p) ∙ left
+
+    pub empty_there : get_or s i 0 ≡ byte "/" → started ≡ false → false ≡ whole
+    empty_there e none = at_slash e (rw none)
+
+    pub slash_there : get_or s i 0 ≡ byte "/" → started ≡ true → names_left false (segments (drop (i + 1) s)) ≡ whole
+    slash_there e some = at_slash e (rw some)
+
+    pub barred_there : (get_or s i 0 ≡ byte "/" → ⊥) → name_byte false (get_or s i 0) ≡ false → false ≡ whole
+    barred_there e p = at_byte e (rw p)
+
+    pub name_byte_there : (get_or s i 0 ≡ byte "/" → ⊥) → name_byte false (get_or s i 0) ≡ true → names_left true (segments (drop (i + 1) s)) ≡ whole
+    name_byte_there e p = at_byte e (rw p)
+
+  pub names_end : length s ≤ i → started ≡ whole
+  unfolding names_left segments every name_text
+  names_end past = sym (done (λ t. names_left started (segments t)) s i past ∙ go started) ∙ left
+    where
+      go : (begun : Bool) → names_left begun (segments []) ≡ begun
+      go true = refl
+      go false = refl
 
 module _ (s : List ℕ) where
   pub unqualified_within : length s ≤ text_limit → name_text false s ≡ is_unqualified_name s
@@ -101,9 +142,9 @@ module _ (s : List ℕ) where
   unfolding is_unqualified_name
   unqualified_over h = rw (lt-leb _ _ h)
 
-  pub binary_within : length s ≤ text_limit → list_all (name_text false) (slice_split (λ b. eqb b (byte "/")) s) ≡ is_binary_name s
+  pub binary_within : length s ≤ text_limit → names_left false (segments s) ≡ is_binary_name s
   unfolding is_binary_name
-  binary_within h = every_list_all (name_text false) _ ∙ ap (every (name_text false)) (split_segments s) ∙ rw (le-leb _ _ h)
+  binary_within h = none_begun s ∙ rw (le-leb _ _ h)
 
   pub binary_over : text_limit < length s → false ≡ is_binary_name s
   unfolding is_binary_name

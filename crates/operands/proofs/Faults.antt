@@ -17,7 +17,8 @@ use Rattle.pool.specs.Entries.{Entry, entry_of_kind}
 use Rattle.std.specs.Prelude.{Option, Some, None, Ok, Err}
 use Rattle.refusals.specs.declared.Reason.{Reason}
 use Rattle.refusals.specs.declared.Reason.TheVariants as reason
-use Rattle.refusals.specs.Numbers.{refused}
+use Rattle.refusals.specs.Numbers.{refused, number_of}
+use Rattle.refusals.proofs.Numbers.{numbers_differ}
 use Rattle.pool.proofs.Exactly.{no_entry_exactly, wrong_kind_exactly, two_refusals}
 use Rattle.opcodes.specs.Operands.{Meaning, Operand}
 use Rattle.operands.specs.Checks.{signed_read, unless_fault, fault_in, index_fault, zero_fault, array_tag_fault, meant}
@@ -26,15 +27,15 @@ use Rattle.operands.proofs.Exactly.{finds, found}
 use Rattle.operands.proofs.Parts.{clash, same_first, same_reason, same_place}
 
 -- a read is refused exactly where the code ends within its bytes
-pub read_refused : (k : ℕ) (code : List ℕ) (at : CodeOffset) (why : Reason) (place : CodeOffset) → (read_of k code at ≡ Err (refused why place)) ↔ ((why ≡ reason.PastEnd) × (place ≡ at) × (length code < at.0 + k))
-read_refused k code at why place = (λ e. to (leb (at.0 + k) (length code)) refl e, λ h. read_past k code at h.2 ∙ rw (h.0, h.1))
+pub read_refused : (k : ℕ) (code : List ℕ) (at : CodeOffset) (why : Reason) (place : CodeOffset) → (read_of k code at ≡ Err (refused why place)) ↔ ((number_of why ≡ 3) × (place ≡ at) × (length code < at.0 + k))
+read_refused k code at why place = (λ e. to (leb (at.0 + k) (length code)) refl e, λ h. read_past k code at h.2 ∙ rw (numbers_differ why reason.PastEnd h.0, h.1))
   where
-    to : (t : Bool) → leb (at.0 + k) (length code) ≡ t → read_of k code at ≡ Err (refused why place) → (why ≡ reason.PastEnd) × (place ≡ at) × (length code < at.0 + k)
+    to : (t : Bool) → leb (at.0 + k) (length code) ≡ t → read_of k code at ≡ Err (refused why place) → (number_of why ≡ 3) × (place ≡ at) × (length code < at.0 + k)
     to true q e = absurd (clash (sym e ∙ read_found k code at (leb-true _ _ q)))
     to false q e =
         let past : length code < at.0 + k = leb-false _ _ q in
         let same = sym e ∙ read_past k code at past in
-        (same_reason same, same_place same, past)
+        (ap number_of (same_reason same), same_place same, past)
 
 -- a checked read is refused as the read is, or its number is bad
 data Turned (Bad : ℕ → Reason → Type 0) (at : CodeOffset) (found : Read) (why : Reason) (place : CodeOffset) : Type 0 where
@@ -76,43 +77,43 @@ index_tells pool kinds v why = (λ h. to (entry_of_kind pool kinds v) refl h, fr
         let same : other ≡ why = (let z : Some other ≡ Some why = ap fault_in (sym q) ∙ e in cc) in
         let is : entry_of_kind pool kinds v ≡ Err why = q ∙ ap (λ (r : Reason). Err r) same in
         ⊎_elim
-        (λ none. WrongIndex.no_entry none ((no_entry_exactly pool kinds v).0 (is ∙ ap (λ (r : Reason). Err r) none)))
+        (λ none. WrongIndex.no_entry none ((no_entry_exactly pool kinds v).0 (is ∙ ap (λ (r : Reason). Err r) (numbers_differ why reason.NoEntry none))))
         (λ wrong.
-        let w = (wrong_kind_exactly pool kinds v).0 (is ∙ ap (λ (r : Reason). Err r) wrong) in
+        let w = (wrong_kind_exactly pool kinds v).0 (is ∙ ap (λ (r : Reason). Err r) (numbers_differ why reason.WrongKind wrong)) in
         WrongIndex.wrong_kind wrong w.0 w.1 w.2)
         (two_refusals pool kinds v why is)
 
     from : WrongIndex pool kinds v why → fault_in (entry_of_kind pool kinds v) ≡ Some why
-    from (WrongIndex.no_entry none h) = ap fault_in ((no_entry_exactly pool kinds v).1 h) ∙ ap (λ (r : Reason). Some r) (sym none)
-    from (WrongIndex.wrong_kind wrong some inside other) = ap fault_in ((wrong_kind_exactly pool kinds v).1 (some, inside, other)) ∙ ap (λ (r : Reason). Some r) (sym wrong)
+    from (WrongIndex.no_entry none h) = ap fault_in ((no_entry_exactly pool kinds v).1 h) ∙ ap (λ (r : Reason). Some r) (sym (numbers_differ why reason.NoEntry none))
+    from (WrongIndex.wrong_kind wrong some inside other) = ap fault_in ((wrong_kind_exactly pool kinds v).1 (some, inside, other)) ∙ ap (λ (r : Reason). Some r) (sym (numbers_differ why reason.WrongKind wrong))
 
--- the reason of a fault that is there
-same_fault : {why other : Reason} → Some other ≡ Some why → why ≡ other
-same_fault e = cc
+-- the number of a fault that is there
+same_fault : {why : Reason} (other : Reason) → Some other ≡ Some why → number_of why ≡ number_of other
+same_fault {why} other e = ap number_of (let same : why ≡ other = cc in same)
 
-zero_tells : Tells zero_fault (λ v why. (why ≡ reason.NotZero) × (v ≡ 0 → ⊥))
-zero_tells v why = (λ h. to (eqb v 0) refl h, λ h. rw (ne_eqb v 0 h.1, zero_fault) (ap (λ (r : Reason). Some r) (sym h.0)))
+zero_tells : Tells zero_fault (λ v why. (number_of why ≡ 8) × (v ≡ 0 → ⊥))
+zero_tells v why = (λ h. to (eqb v 0) refl h, λ h. rw (ne_eqb v 0 h.1, zero_fault) (ap (λ (r : Reason). Some r) (sym (numbers_differ why reason.NotZero h.0))))
   where
-    to : (t : Bool) → eqb v 0 ≡ t → zero_fault v ≡ Some why → (why ≡ reason.NotZero) × (v ≡ 0 → ⊥)
+    to : (t : Bool) → eqb v 0 ≡ t → zero_fault v ≡ Some why → (number_of why ≡ 8) × (v ≡ 0 → ⊥)
     to true q e = absurd (let z : None ≡ Some why = sym (rw (q, zero_fault)) ∙ e in cc)
-    to false q e = (same_fault (sym (rw (q, zero_fault)) ∙ e), eqb-false v 0 q)
+    to false q e = (same_fault reason.NotZero (sym (rw (q, zero_fault)) ∙ e), eqb-false v 0 q)
 
-tag_tells : Tells array_tag_fault (λ v why. (why ≡ reason.NoArrayTag) × ((v < 4) ⊎ (11 < v)))
+tag_tells : Tells array_tag_fault (λ v why. (number_of why ≡ 9) × ((v < 4) ⊎ (11 < v)))
 tag_tells v why = (λ h. to (leb 4 v) refl (leb v 11) refl h, from)
   where
-    to : (t : Bool) → leb 4 v ≡ t → (u : Bool) → leb v 11 ≡ u → array_tag_fault v ≡ Some why → (why ≡ reason.NoArrayTag) × ((v < 4) ⊎ (11 < v))
+    to : (t : Bool) → leb 4 v ≡ t → (u : Bool) → leb v 11 ≡ u → array_tag_fault v ≡ Some why → (number_of why ≡ 9) × ((v < 4) ⊎ (11 < v))
     to true p true q e = absurd (let z : None ≡ Some why = sym (rw (p, q, array_tag_fault)) ∙ e in cc)
-    to true p false q e = (same_fault (sym (rw (p, q, array_tag_fault)) ∙ e), inr (leb-false _ _ q))
-    to false p u q e = (same_fault (sym (rw (p, array_tag_fault)) ∙ e), inl (leb-false _ _ p))
+    to true p false q e = (same_fault reason.NoArrayTag (sym (rw (p, q, array_tag_fault)) ∙ e), inr (leb-false _ _ q))
+    to false p u q e = (same_fault reason.NoArrayTag (sym (rw (p, array_tag_fault)) ∙ e), inl (leb-false _ _ p))
 
     below : (t : Bool) → leb 4 v ≡ t → 11 < v → array_tag_fault v ≡ Some reason.NoArrayTag
     below true p h = rw (p, lt-leb v 11 h, array_tag_fault)
     below false p h = rw (p, array_tag_fault)
 
-    from : (why ≡ reason.NoArrayTag) × ((v < 4) ⊎ (11 < v)) → array_tag_fault v ≡ Some why
+    from : (number_of why ≡ 9) × ((v < 4) ⊎ (11 < v)) → array_tag_fault v ≡ Some why
     from h =
         ⊎_elim (λ (low : v < 4). rw (lt-leb 4 v low, array_tag_fault)) (λ (high : 11 < v). below (leb 4 v) refl high) h.1
-        ∙ ap (λ (r : Reason). Some r) (sym h.0)
+        ∙ ap (λ (r : Reason). Some r) (sym (numbers_differ why reason.NoArrayTag h.0))
 
 meant_refused : (pool : List ℕ) (k : ℕ) (meaning : Meaning) (at : CodeOffset) (found : Read) (why : Reason) (place : CodeOffset) → (meant pool k meaning at found ≡ Err (refused why place)) ↔ Turned (Wrong pool meaning) at found why place
 unfolding signed_read

@@ -8,8 +8,10 @@ use Rattle.read.specs.declared.CodeOffset.{CodeOffset}
 use Rattle.read.specs.Reads.{Read, after, read_of}
 use Rattle.std.specs.Prelude.{Ok, Err}
 use Rattle.refusals.specs.declared.Reason.{Reason}
+use Rattle.refusals.specs.declared.Reason.TheVariants as reason
 use Rattle.refusals.specs.declared.Refusal.{Refusal}
-use Rattle.refusals.specs.Numbers.{refused}
+use Rattle.refusals.specs.Numbers.{refused, number_of}
+use Rattle.refusals.proofs.Numbers.{numbers_differ}
 use Rattle.opcodes.specs.declared.WideForm.{WideForm}
 use Rattle.opcodes.specs.declared.WideForm.TheVariants as form
 use Rattle.opcodes.specs.Operands.{Operand, WideLayout, wide_layout_of}
@@ -116,7 +118,7 @@ module _ (code pool : List ℕ) (at : CodeOffset) (why : Reason) (place : CodeOf
       laid byte (WideLayout.operands os) q s d = WideFault.of_operands byte s os q ((operands_refused_exactly code pool byte os (after 1 at) why place s.within).0 (sym (ap (widened_by code pool byte at (after 1 at)) q) ∙ d))
       laid byte WideLayout.none q s d =
           let same = sym d ∙ ap (widened_by code pool byte at (after 1 at)) q in
-          WideFault.not_modified (same_reason same) (same_place same) byte s (unmodified (wide_form_of byte) q)
+          WideFault.not_modified (ap number_of (same_reason same)) (same_place same) byte s (unmodified (wide_form_of byte) q)
 
       go : Then (read_of 1 code at) (λ byte mid. widened code pool byte at mid) why place → WideFault code pool at why place
       go (Then.here r) =
@@ -132,7 +134,7 @@ module _ (code pool : List ℕ) (at : CodeOffset) (why : Reason) (place : CodeOf
   wide_from : WideFault code pool at why place → wide_step code pool at ≡ Err (refused why place)
   wide_from (WideFault.past_end three there past) = ap (λ (r : Read). then_read r (λ byte mid. widened code pool byte at mid)) ((read_refused 1 code at why place).1 (three, there, omega arith))
   wide_from (WideFault.not_modified five there byte s f) =
-      read_then byte s ∙ ap (λ (w : WideForm). widened_by code pool byte at (after 1 at) (wide_layout_of w)) f ∙ rw (five, there)
+      read_then byte s ∙ ap (λ (w : WideForm). widened_by code pool byte at (after 1 at) (wide_layout_of w)) f ∙ rw (numbers_differ why reason.NotAfterWide five, there)
   wide_from (WideFault.of_operands byte s os q fault) =
       read_then byte s ∙ ap (widened_by code pool byte at (after 1 at)) q ∙ (operands_refused_exactly code pool byte os (after 1 at) why place s.within).1 fault
 

@@ -1,4 +1,4 @@
--- What is wrong with an instruction's operands, and document 01's reason and place for it, from the side of the bytes that
+-- What is wrong with an instruction's operands, and document 01's number and place for it, from the side of the bytes that
 -- stand there. Nothing here is read. The proofs are in proofs/Faults.antt.
 use Rattle.std.specs.Prelude.{ℕ, ◌≤◌, List, [], ◌∷◌, ◌++◌, ◌↔◌, ◌≡◌, length, Err}
 use Rattle.read.specs.declared.CodeOffset.{CodeOffset}
@@ -9,8 +9,7 @@ use Rattle.opcodes.specs.Wide.{wide_form_of}
 use Rattle.operands.specs.Pictures.{Stand}
 use Rattle.operands.specs.Faults.{OperandFault}
 use Rattle.refusals.specs.declared.Reason.{Reason}
-use Rattle.refusals.specs.declared.Reason.TheVariants as reason
-use Rattle.refusals.specs.Numbers.{refused}
+use Rattle.refusals.specs.Numbers.{refused, number_of}
 use Rattle.ordinary.specs.Ordinary.{operands_from, wide_step}
 use Rattle.ordinary.specs.Pictures.{Pictures, NamedAll}
 
@@ -37,8 +36,8 @@ OperandsRefusedExactly =
 
 -- after wide: no byte, a byte that wide does not modify, or a fault of the operands after it
 pub data WideFault (code pool : List ℕ) (at : CodeOffset) (why : Reason) (place : CodeOffset) : Type 0 where
-  past_end : why ≡ reason.PastEnd → place ≡ at → length code ≤ at.0 → WideFault code pool at why place
-  not_modified : why ≡ reason.NotAfterWide → place ≡ at → (byte : ℕ) → Stand code at (byte ∷ []) → wide_form_of byte ≡ form.NoInstruction → WideFault code pool at why place
+  past_end : number_of why ≡ 3 → place ≡ at → length code ≤ at.0 → WideFault code pool at why place
+  not_modified : number_of why ≡ 5 → place ≡ at → (byte : ℕ) → Stand code at (byte ∷ []) → wide_form_of byte ≡ form.NoInstruction → WideFault code pool at why place
   of_operands :
       (byte : ℕ) → Stand code at (byte ∷ []) → (os : List Operand)
       → wide_layout_of (wide_form_of byte) ≡ WideLayout.operands os → OperandsFault code pool os (after 1 at) why place

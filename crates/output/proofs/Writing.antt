@@ -3,11 +3,12 @@ use Prim.Native.Nat.{ℕ, suc, ◌+◌, ◌-◌, ◌≤◌, ◌<◌}
 use mathlib.Core.List.{List, [], ◌∷◌, ◌++◌}
 use mathlib.Core.Path.{◌≡◌, sym, ap, ◌∙◌}
 use native.Mathlib.Nat.{add-zero, add-suc, suc-add, zero-add}
+use native.Mathlib.Numerals.{add-one}
 use native.Mathlib.Omega.{arith}
 use borrow.Author.Tests.{le-leb, lt-leb}
-use lib.ListN.{length-take, length-drop, length, take, drop, set}
+use lib.ListN.{length-take, length-drop, length, get_or, take, drop, set}
 use borrow.Rule.Slice.PartMut.{put_mid}
-use lib.Seq.{drop-drop, sets, sets-eq}
+use lib.Seq.{drop-drop, sets, sets-eq, take-suc, length-take-le}
 use Rattle.std.specs.Prelude.{Ok, Err, IsErrAnd}
 use Rattle.std.proofs.lemmas.Result.{err_from_is_err_and}
 use Rattle.std.proofs.Common.{append_assoc}
@@ -24,6 +25,10 @@ sets_append l i (x ∷ a) b =
 
 pub sets_more : (l : List ℕ) (at n b : ℕ) (a : List ℕ) → length a ≡ n → set (sets l at a) (at + n) b ≡ sets l at (a ++ b ∷ [])
 sets_more l at n b a e = rw (← e) (sets_append l at a (b ∷ []))
+
+-- a byte more, in an output that has the bytes before it
+pub copy_more : (l out : List ℕ) (at i : ℕ) (s : List ℕ) → i < length s → out ≡ sets l at (take i s) → set out (at + i) (get_or s i 0) ≡ sets l at (take (i + 1) s)
+copy_more l out at i s h e = rw (e, add-one) (sets_more l at i (get_or s i 0) (take i s) (length-take-le i s (omega arith)) ∙ ap (sets l at) (sym (take-suc s i 0 h)))
 
 -- a run written at the front, and what stands past it
 pub sets_front : (l a : List ℕ) → length a ≤ length l → sets l 0 a ≡ a ++ drop (length a) l

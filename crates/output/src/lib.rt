@@ -9,13 +9,15 @@ use refusals::Refusal;
 // What a writing answers: the length written, or a refusal.
 pub type Output = Result<usize, Refusal<usize>>;
 
-// Bytes copied into the output, from an offset on.
+// Bytes copied into the output, from an offset on. By index: for `copy_from_slice` an archive for C would need `memmove` from
+// outside.
 pub fn put(out: &mut [u8], at: usize, bytes: &[u8])
     requires { at + length bytes.now ≤ length out.old }
     ensures { out.new ≡ sets out.old at bytes.now }
 {
-    let end = at + bytes.len();
-    out[at..end].copy_from_slice(bytes);
+    for i in 0..bytes.len() {
+        out[at + i] = bytes[i];
+    }
 }
 
 // One byte so many times, from an offset on. An output with an offset, no line of `phrases`: printing knows where each part

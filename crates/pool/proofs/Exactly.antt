@@ -14,6 +14,7 @@ use Rattle.pool.specs.declared.Kinds.{Kinds}
 use Rattle.std.specs.Prelude.{Ok, Err}
 use Rattle.refusals.specs.declared.Reason.{Reason}
 use Rattle.refusals.specs.declared.Reason.TheVariants as reason
+use Rattle.refusals.specs.Numbers.{number_of}
 use Rattle.pool.specs.Tags.{tags_of, allows_tag}
 use Rattle.pool.specs.Entries.{Entry, entry_at, of_kind, entry_of_kind, HasKind}
 use Rattle.pool.specs.Theorems.{EntryFoundExactly, NoEntryExactly, WrongKindExactly, TwoRefusals}
@@ -121,7 +122,7 @@ wrong_kind_exactly pool kinds index = (λ e. to e (verdict pool kinds index), λ
 pub two_refusals : TwoRefusals
 two_refusals pool kinds index why e = by (verdict pool kinds index)
   where
-    by : Verdict pool kinds index → (why ≡ reason.NoEntry) ⊎ (why ≡ reason.WrongKind)
-    by (none h q) = inl (one_reason e q)
-    by (wrong p h w q) = inr (one_reason e q)
+    by : Verdict pool kinds index → (number_of why ≡ 6) ⊎ (number_of why ≡ 7)
+    by (none h q) = inl (ap number_of (one_reason e q))
+    by (wrong p h w q) = inr (ap number_of (one_reason e q))
     by (right h q) = absurd (not_found e q)

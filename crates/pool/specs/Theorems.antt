@@ -4,6 +4,7 @@ use Rattle.laws.specs.Bytes.{In}
 use Rattle.pool.specs.declared.Kinds.{Kinds}
 use Rattle.refusals.specs.declared.Reason.{Reason}
 use Rattle.refusals.specs.declared.Reason.TheVariants as reason
+use Rattle.refusals.specs.Numbers.{number_of}
 use Rattle.pool.specs.Tags.{tags_of}
 use Rattle.pool.specs.Entries.{HasKind, entry_of_kind}
 
@@ -29,4 +30,4 @@ WrongKindExactly =
 -- and there is no other refusal: proved as `two_refusals`
 abbrev pub TwoRefusals : Type 0
 TwoRefusals =
-    (pool : List ℕ) (kinds : Kinds) (index : ℕ) (why : Reason) → entry_of_kind pool kinds index ≡ Err why → (why ≡ reason.NoEntry) ⊎ (why ≡ reason.WrongKind)
+    (pool : List ℕ) (kinds : Kinds) (index : ℕ) (why : Reason) → entry_of_kind pool kinds index ≡ Err why → (number_of why ≡ 6) ⊎ (number_of why ≡ 7)

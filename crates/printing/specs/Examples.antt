@@ -4,8 +4,7 @@ use Rattle.laws.specs.Bytes.{byte, ascii}
 use Rattle.laws.specs.Examples.{Computes}
 use Rattle.descriptors.specs.declared.FieldDescriptor.{FieldDescriptor}
 use Rattle.descriptors.specs.Texts.{base, object, void}
-use Rattle.refusals.specs.declared.Reason.TheVariants as reason
-use Rattle.refusals.specs.Numbers.{refused}
+use Rattle.refusals.specs.Answers.{by_number}
 use Rattle.printing.specs.Printing.{print_field, print_return, field_output, return_output}
 
 -- the text that the parts point into: two names and the ; between them
@@ -19,46 +18,46 @@ parts dimensions letter start length = record { dimensions = dimensions; letter 
 -- the parts and the output's length: proved as `fields_print`
 abbrev pub FieldsPrint : Type 0
 FieldsPrint =
-    Computes (λ (e : FieldDescriptor × ℕ). print_field text e.0 e.1) (
+    Computes (λ (e : FieldDescriptor × ℕ). by_number (print_field text e.0 e.1)) (
     ((base 0 (byte "I"), 1), Ok 1)
     ∷ ((base 2 (byte "Z"), 9), Ok 3)
     ∷ ((base 255 (byte "I"), 256), Ok 256)
     ∷ ((object 0 4 1, 9), Ok 3)
     -- exactly full, and one byte short
     ∷ ((object 2 0 3, 7), Ok 7)
-    ∷ ((object 2 0 3, 6), Err (refused reason.TooShort 0))
+    ∷ ((object 2 0 3, 6), Err (33, 0))
     -- 256 dimensions
-    ∷ ((base 256 (byte "I"), 300), Err (refused reason.BrokenParts 0))
+    ∷ ((base 256 (byte "I"), 300), Err (34, 0))
     -- a letter not listed
-    ∷ ((base 0 (byte "X"), 9), Err (refused reason.BrokenParts 0))
-    ∷ ((base 0 0, 9), Err (refused reason.BrokenParts 0))
+    ∷ ((base 0 (byte "X"), 9), Err (34, 0))
+    ∷ ((base 0 0, 9), Err (34, 0))
     -- a start or a length without a class name
-    ∷ ((parts 0 (byte "I") 1 0, 9), Err (refused reason.BrokenParts 0))
-    ∷ ((parts 0 (byte "I") 0 1, 9), Err (refused reason.BrokenParts 0))
+    ∷ ((parts 0 (byte "I") 1 0, 9), Err (34, 0))
+    ∷ ((parts 0 (byte "I") 0 1, 9), Err (34, 0))
     -- a range outside the text
-    ∷ ((object 0 4 2, 9), Err (refused reason.BrokenParts 0))
-    ∷ ((object 0 4294967295 1, 9), Err (refused reason.BrokenParts 0))
+    ∷ ((object 0 4 2, 9), Err (34, 0))
+    ∷ ((object 0 4294967295 1, 9), Err (34, 0))
     -- a name with a ; , an empty one, and one whose last segment is empty
-    ∷ ((object 0 2 3, 9), Err (refused reason.BrokenParts 0))
-    ∷ ((object 0 0 0, 9), Err (refused reason.BrokenParts 0))
-    ∷ ((object 0 0 2, 9), Err (refused reason.BrokenParts 0))
+    ∷ ((object 0 2 3, 9), Err (34, 0))
+    ∷ ((object 0 0 0, 9), Err (34, 0))
+    ∷ ((object 0 0 2, 9), Err (34, 0))
     -- V as a field
-    ∷ ((void, 9), Err (refused reason.BrokenParts 0))
+    ∷ ((void, 9), Err (34, 0))
     -- 34 goes before 33
-    ∷ ((void, 0), Err (refused reason.BrokenParts 0))
+    ∷ ((void, 0), Err (34, 0))
     ∷ [])
 
 -- proved as `returns_print`
 abbrev pub ReturnsPrint : Type 0
 ReturnsPrint =
-    Computes (λ (e : FieldDescriptor × ℕ). print_return text e.0 e.1) (
+    Computes (λ (e : FieldDescriptor × ℕ). by_number (print_return text e.0 e.1)) (
     ((void, 1), Ok 1)
-    ∷ ((void, 0), Err (refused reason.TooShort 0))
+    ∷ ((void, 0), Err (33, 0))
     ∷ ((base 0 (byte "J"), 1), Ok 1)
     ∷ ((object 1 0 3, 6), Ok 6)
     -- V with dimensions, and with a name's range
-    ∷ ((base 1 (byte "V"), 9), Err (refused reason.BrokenParts 0))
-    ∷ ((parts 0 (byte "V") 0 1, 9), Err (refused reason.BrokenParts 0))
+    ∷ ((base 1 (byte "V"), 9), Err (34, 0))
+    ∷ ((parts 0 (byte "V") 0 1, 9), Err (34, 0))
     ∷ [])
 
 -- the output, each byte 7 before: what lies past the descriptor stays, and a refusal changes nothing. Proved as
@@ -86,9 +85,9 @@ ReturnOutputsCompute =
 -- its name. Proved as `limits_compute`
 abbrev pub LimitsCompute : Type 0
 LimitsCompute =
-    Computes (λ (e : ℕ × FieldDescriptor). print_field (replicate e.0 (byte "a")) e.1 0) (
-    ((65536, base 0 (byte "I")), Err (refused reason.OverTheLimit 0))
-    ∷ ((65536, void), Err (refused reason.OverTheLimit 0))
-    ∷ ((65535, base 0 (byte "I")), Err (refused reason.TooShort 0))
-    ∷ ((65535, object 0 0 65534), Err (refused reason.OverTheLimit 0))
+    Computes (λ (e : ℕ × FieldDescriptor). by_number (print_field (replicate e.0 (byte "a")) e.1 0)) (
+    ((65536, base 0 (byte "I")), Err (21, 0))
+    ∷ ((65536, void), Err (21, 0))
+    ∷ ((65535, base 0 (byte "I")), Err (33, 0))
+    ∷ ((65535, object 0 0 65534), Err (21, 0))
     ∷ [])

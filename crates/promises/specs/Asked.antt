@@ -1,6 +1,8 @@
 -- Any arguments may be given: no entry has a `requires`. Each line is over what the checker makes of the contract in src/, so
 -- a `requires` that some arguments break breaks it. Proved in proofs/Asked.antt as `entries_ask_nothing`. The published
--- functions that are not listed serve other crates and ask something of these: docs/PROMISES.md says who meets it.
+-- functions that are not listed serve other crates and ask something of these: docs/PROMISES.md says who meets it. But two,
+-- `Reason::at` and `all_used`, over any type, have no `requires`: they ask what every function over a type does, that the
+-- lifetimes in it are its caller's.
 use denote.RattleType.{RattleType}
 use mir.Syntax.{w64}
 use mir.Val.{Fits}
@@ -127,6 +129,7 @@ pub record EntriesAskNothing : Type 1 where
   pub is_offset : AsksNothing lookup.specs.contracts.SortedRecords.is_offset.ended lookup.proofs.SortedRecords.is_offset.Reads.Asked
   -- jumps
   pub stored_entries : AsksNothing jumps.specs.contracts.stored_entries.ended jumps.proofs.stored_entries.Reads.Asked
+  pub failure : AsksNothing jumps.specs.contracts.FailureFromRefusalCodeOffset.from.ended jumps.proofs.FailureFromRefusalCodeOffset.from.Reads.Asked
   -- filling
   pub entries_of : AsksNothing filling.specs.contracts.entries_of.ended filling.proofs.entries_of.Reads.Asked
   -- bytecode
@@ -154,6 +157,11 @@ pub record EntriesAskNothing : Type 1 where
   pub nk_is_array_descriptor : AsksNothing station.specs.contracts.nk_is_array_descriptor.ended station.proofs.nk_is_array_descriptor.Reads.Asked
   pub nk_is_return_descriptor : AsksNothing station.specs.contracts.nk_is_return_descriptor.ended station.proofs.nk_is_return_descriptor.Reads.Asked
   pub nk_is_method_descriptor : AsksNothing station.specs.contracts.nk_is_method_descriptor.ended station.proofs.nk_is_method_descriptor.Reads.Asked
+  pub answer_of_failure : AsksNothing station.specs.contracts.AnswerFromFailure.from.ended station.proofs.AnswerFromFailure.from.Reads.Asked
+  pub answer_of_refusal : AsksNothing station.specs.contracts.AnswerFromRefusalUsize.from.ended station.proofs.AnswerFromRefusalUsize.from.Reads.Asked
+  pub answer_of_output : AsksNothing station.specs.contracts.AnswerFromOutput.from.ended station.proofs.AnswerFromOutput.from.Reads.Asked
+  pub parts_of_refusal : AsksNothing station.specs.contracts.PartsFromRefusalUsize.from.ended station.proofs.PartsFromRefusalUsize.from.Reads.Asked
+  pub parts_of_field : AsksNothing station.specs.contracts.PartsFromField.from.ended station.proofs.PartsFromField.from.Reads.Asked
   -- wording
   pub has_operands : AsksNothing wording.specs.contracts.has_operands.ended wording.proofs.has_operands.Reads.Asked
   -- listing
@@ -165,3 +173,4 @@ pub record EntriesAskNothing : Type 1 where
   pub shown : AsksNothing listing.specs.contracts.shown.ended listing.proofs.shown.Reads.Asked
   -- bundle
   pub next_method : AsksNothing bundle.specs.contracts.next_method.ended bundle.proofs.next_method.Reads.Asked
+  pub cut_short : AsksNothing bundle.specs.contracts.CutShortFromRefusalCodeOffset.from.ended bundle.proofs.CutShortFromRefusalCodeOffset.from.Reads.Asked

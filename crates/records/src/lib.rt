@@ -68,7 +68,7 @@ pub fn record_at(records: &[u32], index: RecordIndex) -> Record
     }
 }
 
-// The offset alone: what the definitions of `lookup` are over.
+// The offset alone, for who seeks a record by it.
 pub fn offset_at(records: &[u32], index: RecordIndex) -> CodeOffset
     requires { (index.0 + 1) * record_words ≤ length records.now }
     ensures { result ≡ offset_at records.now index }

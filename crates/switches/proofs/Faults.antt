@@ -14,7 +14,8 @@ use Rattle.std.specs.Prelude.{Option, Some, None, Result, Ok, Err}
 use Rattle.refusals.specs.declared.Reason.{Reason}
 use Rattle.refusals.specs.declared.Reason.TheVariants as reason
 use Rattle.refusals.specs.declared.Refusal.{Refusal}
-use Rattle.refusals.specs.Numbers.{refused}
+use Rattle.refusals.specs.Numbers.{refused, number_of}
+use Rattle.refusals.proofs.Numbers.{numbers_differ}
 use Rattle.read.specs.Reads.{Read, big_endian, bytes_at, after, read_of}
 use Rattle.operands.specs.Signed.{signed_of}
 use Rattle.operands.proofs.Parts.{clash, same_refusal, same_reason, same_place}
@@ -75,14 +76,14 @@ module _ (code : List ℕ) (why : Reason) (place : CodeOffset) where
   next_to at follows e = go (then_refused (read_of 4 code at) follows why place e)
     where
       go : Then (read_of 4 code at) follows why place → Next at follows
-      go (Then.here r) = let f = (read_refused 4 code at why place).0 r in Next.short (record { is = f.0; placed = f.1; past = f.2 })
+      go (Then.here r) = let f = (read_refused 4 code at why place).0 r in Next.short (record { number = f.0; placed = f.1; past = f.2 })
       go (Then.further_on v mid r d) =
           let f = finds 4 code at v mid r in
           let s = stand_here code 4 at f.within in
           Next.more (bytes_at 4 code at.0) (record { four = s.0; stand = s.1 }) (sym (ap₂ follows f.number f.place) ∙ d)
 
   short_from : (at : CodeOffset) (follows : ℕ → CodeOffset → Step) → WordShort code at why place → then_read (read_of 4 code at) follows ≡ Err (refused why place)
-  short_from at follows s = ap (λ (r : Read). then_read r follows) ((read_refused 4 code at why place).1 (s.is, s.placed, s.past))
+  short_from at follows s = ap (λ (r : Read). then_read r follows) ((read_refused 4 code at why place).1 (s.number, s.placed, s.past))
 
   word_from : (at : CodeOffset) (follows : ℕ → CodeOffset → Step) (word : List ℕ) → WordStands code at word → then_read (read_of 4 code at) follows ≡ follows (big_endian word) (after 4 at)
   word_from at follows word w =
@@ -115,7 +116,7 @@ module _ (code : List ℕ) (why : Reason) (place : CodeOffset) where
             words = bytes_at (4 * fit) code at.0;
             all = s.0;
             stand = s.1;
-            short = record { is = ap (λ (r : Refusal CodeOffset). r.reason) same; placed = placed ∙ at_place (omega arith); past = omega arith };
+            short = record { number = ap (λ (r : Refusal CodeOffset). number_of r.reason) same; placed = placed ∙ at_place (omega arith); past = omega arith };
           }
 
   words_from_lem : (count : ℕ) (at : CodeOffset) → WordsShort code at count why place → words_from count code at ≡ Err (refused why place)
@@ -124,7 +125,7 @@ module _ (code : List ℕ) (why : Reason) (place : CodeOffset) where
       let fewer : fit < count = w.fewer in
       let within : at.0 + 4 * fit ≤ length code = rw (sym w.all) w.stand.within in
       let past : length code < at.0 + 4 * fit + 4 = w.short.past in
-      words_short code count at (omega arith) ∙ ap₂ (λ (r : Reason) (p : CodeOffset). Err (refused r p)) (sym w.short.is) (at_place (omega arith) ∙ sym w.short.placed)
+      words_short code count at (omega arith) ∙ ap₂ (λ (r : Reason) (p : CodeOffset). Err (refused r p)) (sym (numbers_differ why reason.PastEnd w.short.number)) (at_place (omega arith) ∙ sym w.short.placed)
 
   after_word : {at : CodeOffset} {word : List ℕ} → WordStands code at word → at.0 + 4 ≤ length code
   after_word {word = word} w = let four : length word ≡ 4 = w.four in rw (sym four) w.stand.within
@@ -146,7 +147,7 @@ module _ (code : List ℕ) (why : Reason) (place : CodeOffset) where
         go : (count : Option ℕ) → entry_count (big_endian o.low) (big_endian o.high) ≡ count → TableFault code at why place
         go None q =
             let same = sym e ∙ ap (table_of code (after 8 o.start) (big_endian o.default) (big_endian o.low) (big_endian o.high) (after 12 o.start)) q in
-            TableFault.bad_bounds o (same_reason same) (same_place same) ((bounds o.low o.high).0 q)
+            TableFault.bad_bounds o (ap number_of (same_reason same)) (same_place same) ((bounds o.low o.high).0 q)
         go (Some count) q =
             let c = counts (signed_of (big_endian o.high) -ℤ signed_of (big_endian o.low)) count q in
             let within : (after 8 o.start).0 + 4 ≤ length code = after_word o.high_word in
@@ -193,7 +194,7 @@ module _ (code : List ℕ) (why : Reason) (place : CodeOffset) where
     table_from_lem (TableFault.bad_bounds o ten there bad) =
         past_high o
         ∙ ap (table_of code (after 8 o.start) (big_endian o.default) (big_endian o.low) (big_endian o.high) (after 12 o.start)) ((bounds o.low o.high).1 bad)
-        ∙ rw (ten, there)
+        ∙ rw (numbers_differ why reason.BadBounds ten, there)
     table_from_lem (TableFault.entry_short o count is few w) =
         let fewer : w.fit < count = w.fewer in
         past_high o
@@ -218,7 +219,7 @@ module _ (code : List ℕ) (why : Reason) (place : CodeOffset) where
             LookupFault.pair_short o count q (words_to (2 * count) (after 8 o.start) (omega arith) r)
         go (negsuc k) q =
             let same = sym e ∙ ap (lookup_of code (after 4 o.start) (big_endian o.default) (after 8 o.start)) q in
-            LookupFault.negative o (same_reason same) (same_place same) (subst BelowZero (sym q) tt)
+            LookupFault.negative o (ap number_of (same_reason same)) (same_place same) (subst BelowZero (sym q) tt)
 
     lookup_to : lookup_step code at ≡ Err (refused why place) → LookupFault code at why place
     lookup_to e = defaulted (next_to (padded at) after_its_default e)
@@ -248,7 +249,7 @@ module _ (code : List ℕ) (why : Reason) (place : CodeOffset) where
     lookup_from : LookupFault code at why place → lookup_step code at ≡ Err (refused why place)
     lookup_from (LookupFault.default_short start f s) = lookup_at_start f ∙ short_from start after_its_default s
     lookup_from (LookupFault.npairs_short start f default d s) = past_its_default f default d ∙ short_from (after 4 start) (after_count (after 4 start) (big_endian default)) s
-    lookup_from (LookupFault.negative o eleven there below) = past_npairs o ∙ under (signed_of (big_endian o.npairs)) below ∙ rw (eleven, there)
+    lookup_from (LookupFault.negative o eleven there below) = past_npairs o ∙ under (signed_of (big_endian o.npairs)) below ∙ rw (numbers_differ why reason.NegativeCount eleven, there)
       where
         under : (z : ℤ) → BelowZero z → lookup_of code (after 4 o.start) (big_endian o.default) (after 8 o.start) z ≡ Err (refused reason.NegativeCount (after 4 o.start))
         under (pos m) below = absurd below

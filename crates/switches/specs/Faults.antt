@@ -1,4 +1,4 @@
--- What is wrong with a switch after its opcode, and document 01's reason and place for it, from the side of the bytes that
+-- What is wrong with a switch after its opcode, and document 01's number and place for it, from the side of the bytes that
 -- stand there. Nothing here is read. The proofs are in proofs/Faults.antt.
 use Rattle.std.specs.Prelude.{ℕ, ◌+◌, ◌*◌, ◌%◌, ◌≤◌, ◌<◌, List, ◌↔◌, ◌≡◌, ℤ, pos, negsuc, ◌+ℤ◌, ◌-ℤ◌, length, Err}
 use Rattle.read.specs.declared.CodeOffset.{CodeOffset}
@@ -7,8 +7,7 @@ use Rattle.operands.specs.Signed.{signed_of}
 use Rattle.operands.specs.Pictures.{Stand}
 use Rattle.ordinary.specs.Ordinary.{Step}
 use Rattle.refusals.specs.declared.Reason.{Reason}
-use Rattle.refusals.specs.declared.Reason.TheVariants as reason
-use Rattle.refusals.specs.Numbers.{refused}
+use Rattle.refusals.specs.Numbers.{refused, number_of}
 use Rattle.switches.specs.Switches.{most_entries, table_step, lookup_step}
 
 -- where the words of a switch start: the next offset divisible by 4, counted from the code's start. It may lie past the end
@@ -24,7 +23,7 @@ pub record WordStands (code : List ℕ) (at : CodeOffset) (word : List ℕ) : Ty
 
 -- 3, where the word starts: the code ends within it
 pub record WordShort (code : List ℕ) (at : CodeOffset) (why : Reason) (place : CodeOffset) : Type 0 where
-  pub is : why ≡ reason.PastEnd
+  pub number : number_of why ≡ 3
   pub placed : place ≡ at
   pub past : length code < at.0 + 4
 
@@ -72,7 +71,7 @@ pub data TableFault (code : List ℕ) (at : CodeOffset) (why : Reason) (place : 
       (start : CodeOffset) → FirstWord at start → (default low : List ℕ) → WordStands code start default
       → WordStands code (after 4 start) low → WordShort code (after 8 start) why place
       → TableFault code at why place
-  bad_bounds : (o : TableOpening code at) → why ≡ reason.BadBounds → place ≡ after 8 o.start → BadBounds o.low o.high → TableFault code at why place
+  bad_bounds : (o : TableOpening code at) → number_of why ≡ 10 → place ≡ after 8 o.start → BadBounds o.low o.high → TableFault code at why place
   entry_short :
       (o : TableOpening code at) (count : ℕ) → counted o.low o.high ≡ pos count → count ≤ most_entries
       → WordsShort code (after 12 o.start) count why place
@@ -94,7 +93,7 @@ pub data LookupFault (code : List ℕ) (at : CodeOffset) (why : Reason) (place :
       (start : CodeOffset) → FirstWord at start → (default : List ℕ) → WordStands code start default
       → WordShort code (after 4 start) why place
       → LookupFault code at why place
-  negative : (o : LookupOpening code at) → why ≡ reason.NegativeCount → place ≡ after 4 o.start → BelowZero (signed_of (big_endian o.npairs)) → LookupFault code at why place
+  negative : (o : LookupOpening code at) → number_of why ≡ 11 → place ≡ after 4 o.start → BelowZero (signed_of (big_endian o.npairs)) → LookupFault code at why place
   pair_short :
       (o : LookupOpening code at) (count : ℕ) → signed_of (big_endian o.npairs) ≡ pos count
       → WordsShort code (after 8 o.start) (2 * count) why place

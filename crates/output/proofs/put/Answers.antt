@@ -1,6 +1,7 @@
-use Rattle.std.proofs.Common.{arith}
-use Rattle.output.proofs.Writing.{part_replaced}
+use Rattle.std.proofs.Common.{rules}
+use lib.ListN.{length-set}
+use Rattle.output.proofs.Writing.{copy_more}
 use Rattle.output.proofs.put.Goals as goal
 
-pub returns : goal.returns
-returns c = part_replaced c.args.at _ _ _ _ (omega (arith, c.requires)) (omega arith) c.copy_from_slice.ensures.after
+pub loop-i-preserved : goal.loop-i-preserved
+loop-i-preserved c = (simp length-set (search rules), copy_more _ _ _ _ _ c.loop-i-test.true c.loop-i.invariant.1)
