@@ -28,7 +28,7 @@ fn is_barred(b: u8) -> bool
 }
 
 // The segments from an offset on. The one place that knows the rule of a class name. Not inlined: within a larger reading this
-// loop was slower by half.
+// loop took half as many instructions more.
 #[inline(never)]
 #[tactic(auto, using(crate::proofs::Laws::empty_there, crate::proofs::Laws::semicolon_there, crate::proofs::Laws::slash_there, crate::proofs::Laws::barred_there, crate::proofs::Laws::name_byte_there, crate::proofs::Laws::end_there))]
 pub fn name_end(text: &[u8], start: usize) -> Result<NameEnd, Refusal<usize>>

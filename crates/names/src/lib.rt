@@ -7,8 +7,8 @@ ghost use Rattle.names.specs.Names.{name_byte, name_text, plain_module_byte, esc
 
 use laws::TEXT_LIMIT;
 
-// Whether a byte may stand in a name: `<` and `>` are barred in a method's name alone. No `match` and no `matches!`: both were
-// tried, and took twice the time on a long name.
+// Whether a byte may stand in a name: `<` and `>` are barred in a method's name alone. No `match` and no `matches!`: on a long
+// name the one took twice the time, and the other 1.7 times the instructions.
 fn is_name_byte(b: u8, in_method: bool) -> bool
     ensures { result ≡ name_byte in_method b }
 {
